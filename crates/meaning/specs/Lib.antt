@@ -1,0 +1,14 @@
+pub mod Read
+pub mod Model
+pub mod Log
+pub mod Box
+pub mod Rule
+pub mod Judge
+pub mod Check
+pub mod Meets
+pub mod Faithful
+pub mod Outcomes
+pub mod Bench
+pub mod Frauds
+pub mod Claims
+pub mod Proved
