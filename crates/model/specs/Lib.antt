@@ -1,0 +1,10 @@
+pub mod Rows
+pub mod Back
+pub mod Fresh
+pub mod Starts
+pub mod Stages
+pub mod Told
+pub mod Only
+pub mod Laws
+pub mod RowWords
+pub mod Planned

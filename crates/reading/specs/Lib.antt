@@ -1,0 +1,5 @@
+pub mod At
+pub mod Told
+pub mod Only
+pub mod Reading
+pub mod Back
