@@ -1,0 +1,4 @@
+pub mod Relations
+pub mod Lefts
+pub mod Agrees
+pub mod Answers

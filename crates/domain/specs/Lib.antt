@@ -1,0 +1,4 @@
+pub mod Sets
+pub mod Box
+pub mod Told
+pub mod Only
