@@ -1,0 +1,74 @@
+-- What the words of a fact tell of a conclusion that cites it, and how a cited fact is found.
+use Prim.Native.Nat.{ℕ, zero, suc, _+_, _≤_, _<_}
+use mathlib.Core.Path.{_≡_, refl, sym, ap, _∙_}
+use mathlib.Core.Bool.{Bool, true, false, _&&_}
+use mathlib.Core.List.{List, [], _∷_, map}
+use mathlib.Core.Option.{Option, none, some}
+use native.Mathlib.Omega.{arith}
+use borrow.Author.Tests.{ne-eqb}
+use lib.Dec.{eqb}
+use lib.IntN.{ℤ}
+use lib.ListN.{length, take, getD}
+use Rattle.meaning.specs.Log.{Atom, Fact, relationOf}
+use Rattle.meaning.specs.Judge.{givesFalse, saysFalse, isAtLeast, givesAtLeast, saysAtLeast}
+use Rattle.meaning.specs.Check.{factAt, noFact}
+use Rattle.reading.specs.At.{natAt, intAt, eachAt}
+use Rattle.steps.specs.Facts.{atomAt, thenAt, factOf}
+use Rattle.steps.specs.declared.FactPlace.{FactPlace}
+
+-- the fact of step n, of the first k steps
+pub cited-is : (f : ℕ → Fact) (places : List ℕ) (k n : ℕ) → n < k → k ≤ length places → factAt (map f (take k places)) n ≡ f (getD places n 0)
+cited-is f [] zero n h l = absurd (omega arith)
+cited-is f [] (suc k) n h l = absurd (omega arith)
+cited-is f (p ∷ places) zero n h l = absurd (omega arith)
+cited-is f (p ∷ places) (suc k) zero h l = refl
+cited-is f (p ∷ places) (suc k) (suc n) h l = cited-is f places k n (omega arith) (omega arith)
+
+module _ (log : List ℤ) (f : FactPlace) where
+  no-premise : f .count ≡ 0 → factOf log f .premises ≡ []
+  unfolding eachAt
+  no-premise e = rw e
+
+  some-premise : (f .count ≡ 0 → ⊥) → (a : Atom) × (as′ : List Atom) × (factOf log f .premises ≡ a ∷ as′)
+  unfolding eachAt
+  some-premise n = go (f .count) n
+    where
+      go : (c : ℕ) → (c ≡ 0 → ⊥) → (a : Atom) × (as′ : List Atom) × (eachAt atomAt 3 c log (f .premises) ≡ a ∷ as′)
+      go zero n = absurd (n refl)
+      go (suc c) n = (_, _, refl)
+
+  pub false-so : f .count ≡ 0 → saysFalse (factOf log f) ≡ eqb (f .then) 0
+  false-so e = rw (no-premise e) (go (f .then))
+    where
+      go : (q : ℕ) → givesFalse [] (thenAt q log (f .consequent)) ≡ eqb q 0
+      go zero = refl
+      go (suc q) = sym (ne-eqb (suc q) 0 (λ e. omega arith))
+
+  pub false-not : (f .count ≡ 0 → ⊥) → saysFalse (factOf log f) ≡ false
+  false-not n = let q = some-premise n in rw (q .2)
+
+  module _ (x : ℕ) (v : ℤ) where
+    pub least-so : f .count ≡ 0 → f .then ≡ 1 → saysAtLeast x v (factOf log f) ≡ givesAtLeast x v [] (some (atomAt log (f .consequent)))
+    least-so e t = rw (no-premise e, t)
+
+    pub least-none : f .count ≡ 0 → f .then ≤ 1 → (f .then ≡ 1 → ⊥) → saysAtLeast x v (factOf log f) ≡ false
+    least-none e l n = rw (no-premise e) (go (f .then) l n)
+      where
+        go : (q : ℕ) → q ≤ 1 → (q ≡ 1 → ⊥) → givesAtLeast x v [] (thenAt q log (f .consequent)) ≡ false
+        go zero l n = refl
+        go (suc zero) l n = absurd (n refl)
+        go (suc (suc q)) l n = absurd (omega arith)
+
+    pub least-not : (f .count ≡ 0 → ⊥) → saysAtLeast x v (factOf log f) ≡ false
+    least-not n = let q = some-premise n in rw (q .2)
+
+-- relation 2 is "at least"
+pub second-relation : (n : ℕ) → n ≡ 2 → isAtLeast (relationOf n) ≡ true
+second-relation n e = rw e
+
+pub other-relation : (n : ℕ) → (n ≡ 2 → ⊥) → isAtLeast (relationOf n) ≡ false
+other-relation zero h = refl
+other-relation (suc zero) h = refl
+other-relation (suc (suc zero)) h = absurd (h refl)
+other-relation (suc (suc (suc zero))) h = refl
+other-relation (suc (suc (suc (suc n)))) h = refl

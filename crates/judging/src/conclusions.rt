@@ -1,0 +1,88 @@
+// A conclusion: the fact that it cites has no premises and says what is concluded.
+use crate::Verdict;
+use crate::cited;
+use reading;
+use reading::FactNo;
+use reading::VarNo;
+use steps::FactPlace;
+ghost use mathlib.Core.Path.{_≡_};
+ghost use mathlib.Core.List.{[], map};
+ghost use mathlib.Core.Option.{some};
+ghost use Prim.Native.Nat.{_<_};
+ghost use lib.ListN.{take};
+ghost use Rattle.meaning.specs.Judge.{fits24, saysFalse, givesAtLeast, saysAtLeast};
+ghost use Rattle.meaning.specs.Check.{factAt};
+ghost use Rattle.steps.specs.Facts.{madeFact, factOf, atomAt, AtomIn, FactIn};
+ghost use Rattle.judging.specs.Told.{toldVerdict};
+ghost use Rattle.judging.specs.Cited.{Cited};
+
+fn verdict(fits: bool) -> Verdict
+    ensures { λ r. ⌜ toldVerdict r ≡ fits24 fits ⌝ }
+{
+    if fits {
+        return Verdict::Passes;
+    }
+    Verdict::Fails(24, 0)
+}
+
+// Does the fact say "false" without any premise?
+fn says_false(fact: FactPlace, log: &[i32]) -> bool
+    ensures { λ r. ⌜ r ≡ saysFalse (factOf (now (log .entry)) fact) ⌝ }
+{
+    if fact.count == 0 {
+        return fact.then == 0;
+    }
+    false
+}
+
+// Does the atom at a position say that x is at least some number not below `value`?
+fn is_at_least(log: &[i32], at: usize, v: usize, x: usize, value: i32) -> bool
+    requires { ⌜ AtomIn v (now log) at ⌝ }
+    ensures { λ r. ⌜ r ≡ givesAtLeast x value [] (some (atomAt (now (log .entry)) at)) ⌝ }
+{
+    let relation = reading::number_at(log, at + 1);
+    if relation == 2 {
+        if x == reading::number_at(log, at) {
+            return words::at_most(value, words::word(log, at + 2));
+        }
+    }
+    false
+}
+
+// Does it say, without any premise, that x is at least some number not below `value`?
+fn says_at_least(fact: FactPlace, log: &[i32], v: usize, x: usize, value: i32) -> bool
+    requires { ⌜ FactIn v (now log) fact ⌝ }
+    ensures { λ r. ⌜ r ≡ saysAtLeast x value (factOf (now (log .entry)) fact) ⌝ }
+{
+    if fact.count == 0 {
+        if fact.then == 1 {
+            return is_at_least(log, fact.consequent, v, x, value);
+        }
+    }
+    false
+}
+
+pub fn no_assignment(log: &[i32], places: &[u32], v: usize, k: usize, n: FactNo) -> Verdict
+    requires { ⌜ Cited v (now log) (now places) k × (n .0 < k) ⌝ }
+    ensures { λ r. ⌜ toldVerdict r ≡ fits24 (saysFalse (factAt (map (madeFact (now (log .entry))) (take k (now (places .entry)))) (n .0))) ⌝ }
+{
+    let f = cited(log, places, v, k, n);
+    verdict(says_false(f, log))
+}
+
+pub fn never_below(
+    log: &[i32],
+    places: &[u32],
+    v: usize,
+    k: usize,
+    x: VarNo,
+    value: i32,
+    n: FactNo,
+) -> Verdict
+    requires { ⌜ Cited v (now log) (now places) k × (n .0 < k) ⌝ }
+    ensures { λ r. ⌜ toldVerdict r ≡ fits24 (saysAtLeast (x .0) value (factAt (map (madeFact (now (log .entry))) (take k (now (places .entry)))) (n .0))) ⌝ }
+{
+    let f = cited(log, places, v, k, n);
+    let i = x.0;
+    verdict(says_at_least(f, log, v, i, value))
+}
