@@ -1,0 +1,48 @@
+use mathlib.Core.Path.{_≡_, sym, ap, _∙_}
+use native.Mathlib.Omega.{arith}
+use denote.Ref.{now}
+use lib.ListN.{length}
+use Rattle.checker.specs.Entry.{ShutAt, OpenTo}
+use Rattle.checker.specs.Checks.{checks-shut, checks-open}
+use borrow.Author.Needs.{needs}
+use Rattle.checker.proofs.check.Statement.{statement}
+use Rattle.checker.proofs.check.Tie as tie
+
+returns : tie.Need-returns
+returns c =
+    let d = c .before in
+    let n = d .before .before .before in
+    let a = n .before .before .before .args in
+    rw (c .shut .ensures, d .enum-told .given .1) (checks-shut (now (a .model)) (now (a .log)) (length (now (a .places))) (now (a .places)) _ _ (rw (d .enum-told .given .1) at (n .enter .ensures)))
+
+-- the way to the walk is open
+way : (c : tie.After-known-told) → let a = c .before .before .before .before .before .before .before .args in OpenTo (now (a .model)) (now (a .log)) (length (now (a .places))) (c .before .before .before .before .enter .last .1 .1 .1 .0) (c .before .e .given .0 .0) (c .before .e .given .0 .1 .0)
+way c = rw (c .before .e .given .1) at (c .before .before .before .before .enter .ensures)
+
+walk-requires : tie.Need-walk-requires
+walk-requires c κs =
+    let w = way (c .before .before .before) in
+    (w .planned, w .log-fits, w .places-suffice, omega (arith, w .planned .few-variables))
+
+returns-2 : tie.Need-returns-2
+returns-2 c =
+    let u = c .before .before .before in
+    let k = u .before .before .before .before in
+    let a = k .before .before .before .before .before .before .before .args in
+    checks-open (now (a .model)) (now (a .log)) (length (now (a .places))) (u .walk .result) _ _ (way k) (u .walk .ensures)
+
+pub check-spec : {M : Type 1} → statement M
+check-spec =
+    tie.close
+    (tie.spec
+    (λ c. search needs)
+    (λ c κs. search needs)
+    (λ c. search needs)
+    (λ c. search needs)
+    (λ c κs. search needs)
+    returns
+    (λ c. search needs)
+    (λ c. search needs)
+    walk-requires
+    (λ c. search needs)
+    returns-2)

@@ -1,0 +1,9 @@
+pub mod Told
+pub mod Onward
+pub mod Going
+pub mod Stepping
+pub mod Sofar
+pub mod Entry
+pub mod Checks
+pub mod Only
+pub mod Demands

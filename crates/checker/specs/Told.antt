@@ -1,0 +1,118 @@
+-- What the answers tell: document 01's numbers and values for each case.
+use Prim.Native.Nat.{ℕ, _<_, _≤_}
+use native.Mathlib.Omega.{arith}
+use mathlib.Core.Path.{_≡_, refl}
+use mathlib.Core.Bool.{Bool, true, false}
+use mathlib.Core.List.{List, [], _∷_, _++_}
+use lib.Dec.{ltb}
+use lib.Count.{ones}
+use lib.IntN.{ℤ}
+use lib.ListN.{length, drop}
+use Rattle.meaning.specs.Log.{Fact}
+use Rattle.meaning.specs.Log as log
+use Rattle.meaning.specs.Check as says
+use Rattle.amend.specs.Bits.{bitAt}
+use Rattle.steps.specs.declared.Step.{Step}
+use Rattle.steps.specs.declared.Step.the-variants as step
+use Rattle.steps.specs.declared.StepAnswer.{StepAnswer}
+use Rattle.steps.specs.declared.StepAnswer.the-variants as read
+use Rattle.checker.specs.declared.Conclusion.{Conclusion}
+use Rattle.checker.specs.declared.Conclusion.the-variants as conclusion
+use Rattle.checker.specs.declared.Answer.{Answer}
+use Rattle.checker.specs.declared.Answer.the-variants as answer
+use Rattle.checker.specs.declared.Walked.{Walked}
+use Rattle.checker.specs.declared.Moved.{Moved}
+use Rattle.checker.specs.declared.Moved.the-variants as moved
+
+abbrev pub toldConclusion : Conclusion → says.Conclusion
+toldConclusion conclusion.Nothing = says.nothing
+toldConclusion (conclusion.AtLeast x v) = says.atLeast (x .0) v
+
+abbrev pub toldAnswer : Answer → says.Answer
+toldAnswer (answer.Shut num k p) = says.shut num k p
+toldAnswer (answer.Accepted c) = says.accepted (toldConclusion c)
+toldAnswer (answer.Carried c) = says.carried (toldConclusion c)
+
+-- ---- which steps are held against their rule, and what a conclusion is called: whole, or by the set of changed rows
+
+abbrev pub heldBy : Bool → ℕ → log.Step → Bool
+heldBy true set t = true
+heldBy false set (log.inference r f) = bitAt set r
+heldBy false set (log.deduction f hs) = false
+heldBy false set (log.noAssignment n) = false
+heldBy false set (log.neverBelow x v n) = false
+
+abbrev pub sayBy : Bool → says.Conclusion → says.Answer
+sayBy true c = says.accepted c
+sayBy false c = says.carried c
+
+-- how many rows are reported: all in whole mode
+abbrev pub sizeBy : Bool → ℕ → ℕ → ℕ
+sizeBy true set rows = rows
+sizeBy false set rows = ones set
+
+-- the step k, which begins at `at`, led there from the state s; `f` is the fact that it made
+abbrev pub toldMoved : (says.Conclusion → says.Answer) → List ℤ → says.State → ℕ → ℕ → Fact → Moved → says.Next
+toldMoved say log s k at f (moved.Goes next held) = says.goes (says.passed (says.counted held s) at f) next (drop next log)
+toldMoved say log s k at f (moved.Ends c held) = says.stops (says.ends (say (toldConclusion c)) k at at (says.counted held s) [])
+toldMoved say log s k at f (moved.Stops num p held) = says.stops (says.shutAt num k p (says.counted held s))
+
+-- ---- the answers that the walk's parts make
+
+abbrev pub concludedIf : Bool → Conclusion → Bool → ℕ → Moved
+concludedIf true c held next = moved.Stops 13 next held
+concludedIf false c held next = moved.Ends c held
+
+-- words follow where the next position is below the log's length
+abbrev pub concluded : Conclusion → Bool → ℕ → ℕ → Moved
+concluded c held next len = concludedIf (ltb next len) c held next
+
+abbrev pub turned : Step → Bool → ℕ → ℕ → Moved
+turned (step.Inference r f) held next len = moved.Goes next held
+turned (step.Deduction f h n) held next len = moved.Goes next held
+turned (step.NoAssignment k) held next len = concluded conclusion.Nothing held next len
+turned (step.NeverBelow x a k) held next len = concluded (conclusion.AtLeast x a) held next len
+
+abbrev pub notRead : StepAnswer → Moved
+notRead (read.Is t n) = moved.Stops 0 n false
+notRead (read.Refused num p) = moved.Stops num p false
+
+-- the row that an inference cites is below n
+abbrev pub RowBelow : ℕ → Step → Type 0
+RowBelow n (step.Inference r f) = r .0 < n
+RowBelow n (step.Deduction f h m) = Unit {0}
+RowBelow n (step.NoAssignment k) = Unit {0}
+RowBelow n (step.NeverBelow x a k) = Unit {0}
+
+abbrev pub saidBy : Bool → Conclusion → Answer
+saidBy true c = answer.Accepted c
+saidBy false c = answer.Carried c
+
+pub said-told : (b : Bool) (c : Conclusion) → toldAnswer (saidBy b c) ≡ sayBy b (toldConclusion c)
+said-told true c = refl
+said-told false c = refl
+
+-- the variable that is named is below n
+abbrev pub ConclusionIn : ℕ → Conclusion → Type 0
+ConclusionIn n conclusion.Nothing = Unit {0}
+ConclusionIn n (conclusion.AtLeast x v) = x .0 < n
+
+abbrev pub NamesIn : ℕ → Answer → Type 0
+NamesIn n (answer.Shut num k p) = Unit {0}
+NamesIn n (answer.Accepted c) = ConclusionIn n c
+NamesIn n (answer.Carried c) = ConclusionIn n c
+
+pub said-names : (n : ℕ) (b : Bool) (c : Conclusion) → ConclusionIn n c → NamesIn n (saidBy b c)
+said-names n true c h = h
+said-names n false c h = h
+
+-- the answer tells the outcome, and the places hold its starts and are otherwise as they were lent
+pub record Tells (r : Walked) (lent left : List ℕ) (o : says.Outcome) : Type 0 where
+  pub answered : toldAnswer (r .answer) ≡ o .answer
+  pub counted : r .judged ≡ o .judged
+  pub noted : left ≡ o .starts ++ drop (length (o .starts)) lent
+  pub named : NamesIn 64 (r .answer)
+
+pub few-names : (m n : ℕ) (c : Conclusion) → m ≤ n → ConclusionIn m c → ConclusionIn n c
+few-names m n conclusion.Nothing l h = tt
+few-names m n (conclusion.AtLeast x v) l h = omega arith

@@ -1,0 +1,127 @@
+// The check of a log against a model, step by step.
+mod entry;
+pub mod walk;
+
+use amend;
+use amend::Amended;
+use reading::VarNo;
+ghost use mathlib.Core.Path.{_≡_};
+ghost use Prim.Native.Nat.{_≤_};
+ghost use lib.ListN.{length};
+ghost use Rattle.meaning.specs.Check.{check, recheck};
+ghost use Rattle.checker.specs.Checks.{Checks, Rechecks};
+ghost use Rattle.checker.specs.Told.{sizeBy};
+
+pub enum Conclusion {
+    Nothing,
+    AtLeast(VarNo, i32),
+}
+
+pub enum Answer {
+    Shut {
+        number: u32,
+        step: u32,
+        position: u32,
+    },
+    Accepted(Conclusion),
+    Carried(Conclusion),
+}
+
+// The size of the model, and which steps are held against their rule: all in whole mode, else the inferences that cite a changed row.
+pub struct Plan {
+    pub variables: usize,
+    pub rows: usize,
+    pub whole: bool,
+    pub changed: u64,
+}
+
+// What one step leads to; the flag says whether it was held against its rule.
+pub enum Moved {
+    // It passed, and the next step begins there.
+    Goes(usize, bool),
+    // It is the conclusion, and nothing follows it.
+    Ends(Conclusion, bool),
+    // It is refused: number and position.
+    Stops(u32, usize, bool),
+}
+
+// The answer, and how many steps were held against their rule.
+pub struct Walked {
+    pub answer: Answer,
+    pub judged: u32,
+}
+
+// The gate before the walk: a refusal's number and position, or the number of variables and of rows of a good model.
+pub enum Entered {
+    Shut(u32, u32),
+    Open(usize, usize),
+}
+
+// The recheck's answer: the size of the changed set, and how many steps were held against their rule.
+pub struct Rechecked {
+    pub answer: Answer,
+    pub changed: u32,
+    pub judged: u32,
+}
+
+// The whole check: does the log show, against the model, what it concludes?
+pub fn check(model: &[i32], log: &[i32], places: &mut [u32]) -> Answer
+    ensures { λ r. ⌜ Checks r (now (places .entry)) (now (places .exit)) (check (now (model .entry)) (now (log .entry)) (length (now (places .entry)))) ⌝ }
+{
+    let mut starts = [0u32; 64];
+    let e = entry::enter(model, log, places.len(), &mut starts);
+    let Entered::Open(variables, rows) = e else {
+        return entry::shut(e);
+    };
+    let mut cells = [0i32; 292];
+    let plan = Plan {
+        variables,
+        rows,
+        whole: true,
+        changed: 0,
+    };
+    let w = walk::walk(model, &starts, plan, log, &mut *places, &mut cells);
+    w.answer
+}
+
+// In whole mode every row counts as changed.
+fn size(amended: Amended, rows: usize) -> u32
+    requires { ⌜ rows ≤ 64 ⌝ }
+    ensures { λ r. ⌜ r ≡ sizeBy (amended .whole) (amended .changed) rows ⌝ }
+{
+    if amended.whole {
+        return rows as u32;
+    }
+    amend::size_of_set(amended.changed)
+}
+
+// The recheck of an amended plan: only the inferences that cite a changed row are judged, or all steps where the old model does not fit.
+pub fn recheck(old: &[i32], new: &[i32], log: &[i32], places: &mut [u32]) -> Rechecked
+    ensures { λ r. ⌜ Rechecks r (now (places .entry)) (now (places .exit)) (recheck (now (old .entry)) (now (new .entry)) (now (log .entry)) (length (now (places .entry)))) ⌝ }
+{
+    let mut starts = [0u32; 64];
+    let e = entry::enter(new, log, places.len(), &mut starts);
+    let Entered::Open(variables, rows) = e else {
+        return Rechecked {
+            answer: entry::shut(e),
+            changed: 0,
+            judged: 0,
+        };
+    };
+    let amended = amend::compare(old, new, &starts, variables, rows);
+    let mut cells = [0i32; 292];
+    let plan = Plan {
+        variables,
+        rows,
+        whole: amended.whole,
+        changed: amended.changed,
+    };
+    let w = walk::walk(new, &starts, plan, log, &mut *places, &mut cells);
+    let changed = size(amended, rows);
+    let answer = w.answer;
+    Rechecked {
+        answer,
+        changed,
+        judged: w.judged,
+    }
+}
