@@ -1,0 +1,184 @@
+//! The box: an interval for each variable and one short list of holes for all.
+
+use crate::step::Fact;
+use tables::limits::{HINTS, PREMISES, VARIABLES};
+
+const SIZE: usize = VARIABLES as usize;
+/// Each premise, the consequent and each hint makes at most one hole.
+const MOST_HOLES: usize = (PREMISES + 1 + HINTS) as usize;
+
+pub struct Domains {
+    declared: [(i32, i32); SIZE],
+    /// The ends of each set; an end is never a hole.
+    ends: [(i32, i32); SIZE],
+    /// Variable and value in one number, so that looking for one is a plain scan.
+    holes: [u64; MOST_HOLES],
+    count: usize,
+    /// One bit per variable that has holes.
+    holed: u64,
+    /// One bit per variable that an atom spoke of.
+    pub touched: u64,
+}
+
+impl Domains {
+    pub fn new(bounds: &[i32]) -> Domains {
+        let mut declared = [(0, 0); SIZE];
+        for (entry, pair) in declared.iter_mut().zip(bounds.chunks_exact(2)) {
+            *entry = (pair[0], pair[1]);
+        }
+        Domains {
+            declared,
+            ends: declared,
+            holes: [0; MOST_HOLES],
+            count: 0,
+            holed: 0,
+            touched: 0,
+        }
+    }
+
+    /// Takes the box of a fact; false if a set is empty.
+    pub fn set_up(&mut self, fact: &Fact) -> bool {
+        self.restore();
+        for atom in fact.premises.chunks_exact(3) {
+            if !self.narrow(atom) {
+                return false;
+            }
+        }
+        match *fact.consequent {
+            [variable, relation, value] => {
+                let (relation, value) = match relation {
+                    1 => (2, value + 1),
+                    2 => (1, value - 1),
+                    3 => (4, value),
+                    _ => (3, value),
+                };
+                self.narrow(&[variable, relation, value])
+            }
+            _ => true,
+        }
+    }
+
+    fn restore(&mut self) {
+        let mut left = self.touched;
+        while left != 0 {
+            let variable = left.trailing_zeros() as usize;
+            self.ends[variable] = self.declared[variable];
+            left &= left - 1;
+        }
+        self.touched = 0;
+        self.holed = 0;
+        self.count = 0;
+    }
+
+    /// Leaves the values for which the atom holds; false if there are none.
+    pub fn narrow(&mut self, atom: &[i32]) -> bool {
+        let &[variable, relation, value] = atom else {
+            unreachable!("an atom is three words");
+        };
+        let variable = variable as usize;
+        self.touched |= 1 << variable;
+        let (low, high) = self.ends[variable];
+        match relation {
+            1 => self.set_ends(variable, low, high.min(value)),
+            2 => self.set_ends(variable, low.max(value), high),
+            3 if self.has(variable, value) => self.set_ends(variable, value, value),
+            3 => false,
+            _ if value == low => self.set_ends(variable, low + 1, high),
+            _ if value == high => self.set_ends(variable, low, high - 1),
+            _ => {
+                self.add_hole(variable, value);
+                true
+            }
+        }
+    }
+
+    /// Moves the ends past holes; false if nothing is left.
+    fn set_ends(&mut self, variable: usize, mut low: i32, mut high: i32) -> bool {
+        if self.has_holes(variable) {
+            while low <= high && self.is_hole(variable, low) {
+                low += 1;
+            }
+            while low <= high && self.is_hole(variable, high) {
+                high -= 1;
+            }
+        }
+        self.ends[variable] = (low, high);
+        low <= high
+    }
+
+    fn add_hole(&mut self, variable: usize, value: i32) {
+        if self.has(variable, value) {
+            self.holes[self.count] = key(variable, value);
+            self.count += 1;
+            self.holed |= 1 << variable;
+        }
+    }
+
+    pub fn has_holes(&self, variable: usize) -> bool {
+        self.holed >> variable & 1 == 1
+    }
+
+    pub fn is_hole(&self, variable: usize, value: i32) -> bool {
+        self.holes[..self.count].contains(&key(variable, value))
+    }
+
+    pub fn low(&self, variable: usize) -> i32 {
+        self.ends[variable].0
+    }
+
+    pub fn high(&self, variable: usize) -> i32 {
+        self.ends[variable].1
+    }
+
+    /// Whether the value is left to the variable.
+    pub fn has(&self, variable: usize, value: i32) -> bool {
+        let (low, high) = self.ends[variable];
+        let within = low <= value && value <= high;
+        within && !(self.has_holes(variable) && self.is_hole(variable, value))
+    }
+
+    /// Whether the atom holds for every value left.
+    #[inline]
+    pub fn satisfy(&self, atom: &[i32]) -> bool {
+        let &[variable, relation, value] = atom else {
+            unreachable!("an atom is three words");
+        };
+        let variable = variable as usize;
+        let (low, high) = self.ends[variable];
+        match relation {
+            1 => high <= value,
+            2 => low >= value,
+            3 => low == value && high == value,
+            _ => !self.has(variable, value),
+        }
+    }
+
+    /// How many values are left.
+    pub fn size(&self, variable: usize) -> i32 {
+        let (low, high) = self.ends[variable];
+        high - low + 1 - self.holes_within(variable, low, high).count() as i32
+    }
+
+    /// The holes of a variable that lie in low..=high.
+    pub fn holes_within(
+        &self,
+        variable: usize,
+        low: i32,
+        high: i32,
+    ) -> impl Iterator<Item = i32> + '_ {
+        let count = if self.has_holes(variable) {
+            self.count
+        } else {
+            0
+        };
+        self.holes[..count]
+            .iter()
+            .filter(move |&&hole| hole >> 32 == variable as u64)
+            .map(|&hole| hole as i32)
+            .filter(move |&value| low <= value && value <= high)
+    }
+}
+
+fn key(variable: usize, value: i32) -> u64 {
+    (variable as u64) << 32 | value as u32 as u64
+}

@@ -1,0 +1,73 @@
+//! The library under test.
+
+use tables::Answer;
+
+/// What is being tested.
+pub const LIBRARY: &str = if cfg!(feature = "linked") {
+    "the linked archive"
+} else {
+    "the fast version in place of the archive"
+};
+
+/// A check, or a recheck where there is an old model.
+pub fn answer(old: Option<&[i32]>, model: &[i32], log: &[i32], places: &mut [u32]) -> Answer {
+    match old {
+        Some(old) => backend::recheck(old, model, log, places),
+        None => backend::check(model, log, places),
+    }
+}
+
+#[cfg(not(feature = "linked"))]
+mod backend {
+    pub use fast::{check, recheck};
+}
+
+#[cfg(feature = "linked")]
+mod backend {
+    use dimpsyholt::raw;
+    use tables::Answer;
+
+    pub fn check(model: &[i32], log: &[i32], places: &mut [u32]) -> Answer {
+        // SAFETY: the slices are good for their lengths, and `places` is borrowed alone
+        same(unsafe {
+            raw::dimpsyholt_check(
+                model.as_ptr(),
+                model.len(),
+                log.as_ptr(),
+                log.len(),
+                places.as_mut_ptr(),
+                places.len(),
+            )
+        })
+    }
+
+    pub fn recheck(old: &[i32], new: &[i32], log: &[i32], places: &mut [u32]) -> Answer {
+        // SAFETY: as above
+        same(unsafe {
+            raw::dimpsyholt_recheck(
+                old.as_ptr(),
+                old.len(),
+                new.as_ptr(),
+                new.len(),
+                log.as_ptr(),
+                log.len(),
+                places.as_mut_ptr(),
+                places.len(),
+            )
+        })
+    }
+
+    fn same(answer: raw::Answer) -> Answer {
+        Answer {
+            kind: answer.kind,
+            number: answer.number,
+            step: answer.step,
+            position: answer.position,
+            conclusion: answer.conclusion,
+            variable: answer.variable,
+            value: answer.value,
+            changed: answer.changed,
+            judged: answer.judged,
+        }
+    }
+}

@@ -1,0 +1,107 @@
+//! Cases whose answers are known from the documents, for everything that answers.
+
+mod bench;
+mod limits;
+mod rechecks;
+mod rules;
+mod vectors;
+
+pub use bench::{bench, whole_example};
+pub use limits::limits;
+pub use rechecks::rechecks;
+pub use rules::rules;
+use tables::{log_words, model_words, Answer, Conclusion, Model, Step};
+pub use vectors::vectors;
+
+/// A case, its answer and the places that it writes; the rest stay as lent.
+#[derive(Clone, Debug)]
+pub struct Known {
+    pub name: String,
+    /// The old model, where the case is a recheck.
+    pub old: Option<Vec<i32>>,
+    pub model: Vec<i32>,
+    pub log: Vec<i32>,
+    /// How many places are lent.
+    pub places: usize,
+    pub answer: Answer,
+    pub written: Vec<u32>,
+}
+
+/// Every known case.
+pub fn all() -> Vec<Known> {
+    [bench(), vectors(), rules(), limits(), rechecks()].concat()
+}
+
+/// What answers: the old model (for a recheck), the model, the log, the places.
+pub type Answers<'a> = &'a dyn Fn(Option<&[i32]>, &[i32], &[i32], &mut [u32]) -> Answer;
+
+/// The names of the cases that are answered otherwise, and how.
+pub fn failures(cases: &[Known], answers: Answers) -> Vec<String> {
+    let told = cases.iter().filter_map(|case| case.failure(answers));
+    told.collect()
+}
+
+impl Known {
+    fn failure(&self, answers: Answers) -> Option<String> {
+        let lent: Vec<u32> = (0..self.places as u32).map(|k| k ^ 0xA5A5_0000).collect();
+        let mut places = lent.clone();
+        let answer = answers(self.old.as_deref(), &self.model, &self.log, &mut places);
+        let mut expected = lent;
+        expected[..self.written.len()].copy_from_slice(&self.written);
+        if answer != self.answer {
+            return Some(format!("{}: {answer:?}, not {:?}", self.name, self.answer));
+        }
+        let differing = (0..places.len()).find(|&k| places[k] != expected[k])?;
+        Some(format!("{}: place {differing} is wrong", self.name))
+    }
+}
+
+/// A whole check with as many places as are needed.
+fn case(name: &str, model: &[i32], log: &[i32], answer: Answer, written: &[u32]) -> Known {
+    Known {
+        name: name.to_string(),
+        old: None,
+        model: model.to_vec(),
+        log: log.to_vec(),
+        places: tables::limits::PLACES,
+        answer,
+        written: written.to_vec(),
+    }
+}
+
+/// A log that ends after its steps have all passed or at the one that is refused.
+///
+/// The last verdict is that of the last step; all before it pass.
+fn steps(name: &str, model: &Model, steps: &[Step], last: Verdict) -> Known {
+    let log = log_words(steps);
+    let mut starts: Vec<u32> = (0..steps.len())
+        .map(|count| log_words(&steps[..count]).len() as u32)
+        .collect();
+    let answer = match last {
+        Verdict::Pass => Answer::refused(10, steps.len(), log.len()),
+        Verdict::Refused(number, position) => {
+            starts.pop();
+            Answer::refused(number, steps.len() - 1, position)
+        }
+    };
+    case(name, &model_words(model), &log, answer, &starts)
+}
+
+/// What becomes of the last step of a log without a conclusion.
+#[derive(Clone, Copy)]
+enum Verdict {
+    Pass,
+    /// The number and the position.
+    Refused(u32, usize),
+}
+
+const PASS: Verdict = Verdict::Pass;
+const NO_CONFLICT: Verdict = Verdict::Refused(21, 0);
+
+fn no_assignment() -> Answer {
+    Answer::accepted(Conclusion::NoAssignment)
+}
+
+fn never_below(variable: u32, value: i32) -> Answer {
+    Answer::accepted(Conclusion::NeverBelow { variable, value })
+}
