@@ -33,18 +33,7 @@ pub const PLACES: usize = 4_096;
 /// Entry k of `places` becomes the position of the first word of step k for each step that
 /// passed; all other entries stay as lent. With fewer than [`PLACES`] entries the log is refused.
 pub fn check(model: &[i32], log: &[i32], places: &mut [u32]) -> Verdict {
-    // SAFETY: the slices are good for their lengths, and `places` is borrowed alone
-    let answer = unsafe {
-        raw::dimpsyholt_check(
-            model.as_ptr(),
-            model.len(),
-            log.as_ptr(),
-            log.len(),
-            places.as_mut_ptr(),
-            places.len(),
-        )
-    };
-    Verdict::from_raw(&answer)
+    Verdict::from_raw(&raw::check(model, log, places))
 }
 
 /// Checks a log again after the model was amended.
@@ -54,19 +43,7 @@ pub fn check(model: &[i32], log: &[i32], places: &mut [u32]) -> Verdict {
 /// `old_model` was worth, so ask for that first. Elsewhere this is the whole check on
 /// `new_model`.
 pub fn recheck(old_model: &[i32], new_model: &[i32], log: &[i32], places: &mut [u32]) -> Recheck {
-    // SAFETY: the slices are good for their lengths, and `places` is borrowed alone
-    let answer = unsafe {
-        raw::dimpsyholt_recheck(
-            old_model.as_ptr(),
-            old_model.len(),
-            new_model.as_ptr(),
-            new_model.len(),
-            log.as_ptr(),
-            log.len(),
-            places.as_mut_ptr(),
-            places.len(),
-        )
-    };
+    let answer = raw::recheck(old_model, new_model, log, places);
     Recheck {
         verdict: Verdict::from_raw(&answer),
         changed: answer.changed,

@@ -1,4 +1,6 @@
-//! The C interface as it is. Use the safe functions of this crate instead.
+//! The C interface as it is: the nine numbers of an answer, not yet a verdict.
+//!
+//! [`check`](crate::check) and [`recheck`](crate::recheck) say what the numbers mean; prefer them.
 
 /// `dimpsyholt_answer`. Fields that do not apply are 0.
 #[repr(C)]
@@ -44,4 +46,36 @@ extern "C" {
         places: *mut u32,
         places_len: usize,
     ) -> Answer;
+}
+
+/// The numbers of a check.
+pub fn check(model: &[i32], log: &[i32], places: &mut [u32]) -> Answer {
+    // SAFETY: the slices are good for their lengths, and `places` is borrowed alone
+    unsafe {
+        dimpsyholt_check(
+            model.as_ptr(),
+            model.len(),
+            log.as_ptr(),
+            log.len(),
+            places.as_mut_ptr(),
+            places.len(),
+        )
+    }
+}
+
+/// The numbers of a recheck.
+pub fn recheck(old_model: &[i32], new_model: &[i32], log: &[i32], places: &mut [u32]) -> Answer {
+    // SAFETY: the slices are good for their lengths, and `places` is borrowed alone
+    unsafe {
+        dimpsyholt_recheck(
+            old_model.as_ptr(),
+            old_model.len(),
+            new_model.as_ptr(),
+            new_model.len(),
+            log.as_ptr(),
+            log.len(),
+            places.as_mut_ptr(),
+            places.len(),
+        )
+    }
 }

@@ -12,11 +12,12 @@ use lib.Seq.{getD-set-same, getD-set-other}
 use lib.Signed.{_≤ℤ_}
 use Rattle.words.specs.Int.{zz, abs-is}
 use Rattle.words.specs.Lists.{least, largest}
-use Rattle.words.specs.ListFacts.{tested, largest-in, least-in}
+use Rattle.words.specs.ListFacts.{tested}
 use Rattle.meaning.specs.Model.{Activity}
 use Rattle.meaning.specs.Proved.Jumps.{ending}
 use Rattle.reading.specs.At.{Names}
 use Rattle.model.specs.Rows.{activityAt, ActivitiesIn}
+use Rattle.rules.specs.Ready as ready
 use Rattle.rules.specs.CumulativeTable.{fromOf, untilOf, usageOf, peak, Sized, Loads}
 use Rattle.rules.specs.CumulativeFacts.{load-small}
 use Rattle.rules.specs.CumulativeParts.{Part}
@@ -103,18 +104,10 @@ module _ (vs : List ℤ) (small : (v : ℤ) → In v vs → natAbs v ≤ 100000)
   in-range v h = (omega (arith, zz, abs-is v), omega (arith, zz, abs-is v))
 
   pub least-small : (negsuc 99999 ≤ℤ least vs) × (least vs ≤ℤ pos 100000)
-  least-small = in-range (least vs) (go vs small)
-    where
-      go : (vs : List ℤ) → ((v : ℤ) → In v vs → natAbs v ≤ 100000) → natAbs (least vs) ≤ 100000
-      go [] f = omega arith
-      go (v ∷ vs) f = f v (least-in v vs)
+  least-small = in-range (least vs) (ready.least-small 100000 vs small)
 
   pub largest-small : (negsuc 99999 ≤ℤ largest vs) × (largest vs ≤ℤ pos 100000)
-  largest-small = in-range (largest vs) (go vs small)
-    where
-      go : (vs : List ℤ) → ((v : ℤ) → In v vs → natAbs v ≤ 100000) → natAbs (largest vs) ≤ 100000
-      go [] f = omega arith
-      go (v ∷ vs) f = f (largest (v ∷ vs)) (largest-in v vs)
+  largest-small = in-range (largest vs) (ready.largest-small 100000 vs small)
 
 -- the words of one activity
 pub record ActivityIn (v : ℕ) (m : List ℤ) (p : ℕ) : Type 0 where

@@ -10,10 +10,10 @@ use mir.Syntax.{w64}
 use mir.Val.{SFits}
 use Rattle.words.specs.Int.{zz, sum, abs-sum, abs-fits, abs-mul-le}
 use Rattle.words.specs.Lists.{least, largest}
-use Rattle.words.specs.ListFacts.{least-in, largest-in}
 use Rattle.meaning.specs.Rule.{leastTerm, leastSum}
 use Rattle.reading.specs.At.{eachAt, intAt, natAt}
 use Rattle.model.specs.Rows.{termAt}
+use Rattle.rules.specs.Ready.{least-small, largest-small}
 use Rattle.rules.specs.Each.{eachFrom, from-start, from-next, from-end}
 
 -- ---- a coefficient below zero takes the largest value left, any other the smallest
@@ -24,14 +24,6 @@ term-below (negsuc n) vs e = refl
 pub term-above : (c : ℤ) (vs : List ℤ) → ltZ c (pos 0) ≡ false → leastTerm c vs ≡ c *ℤ least vs
 term-above (pos n) vs e = refl
 term-above (negsuc n) vs e = absurd (omega (arith, zz))
-
-pub least-small : (k : ℕ) (vs : List ℤ) → ((v : ℤ) → In v vs → natAbs v ≤ k) → natAbs (least vs) ≤ k
-least-small k [] h = omega arith
-least-small k (v ∷ vs) h = h v (least-in v vs)
-
-pub largest-small : (k : ℕ) (vs : List ℤ) → ((v : ℤ) → In v vs → natAbs v ≤ k) → natAbs (largest vs) ≤ k
-largest-small k [] h = omega arith
-largest-small k (v ∷ vs) h = h (largest (v ∷ vs)) (largest-in v vs)
 
 -- the most that a term can be: one more than document 01 lets a value be, so that an end moved past it is covered too
 pub term-small : (c : ℤ) (vs : List ℤ) → natAbs c ≤ 1000000 → ((v : ℤ) → In v vs → natAbs v ≤ 100001) → natAbs (leastTerm c vs) ≤ 100001000000

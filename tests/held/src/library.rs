@@ -28,33 +28,11 @@ mod backend {
     use tables::Answer;
 
     pub fn check(model: &[i32], log: &[i32], places: &mut [u32]) -> Answer {
-        // SAFETY: the slices are good for their lengths, and `places` is borrowed alone
-        same(unsafe {
-            raw::dimpsyholt_check(
-                model.as_ptr(),
-                model.len(),
-                log.as_ptr(),
-                log.len(),
-                places.as_mut_ptr(),
-                places.len(),
-            )
-        })
+        same(raw::check(model, log, places))
     }
 
     pub fn recheck(old: &[i32], new: &[i32], log: &[i32], places: &mut [u32]) -> Answer {
-        // SAFETY: as above
-        same(unsafe {
-            raw::dimpsyholt_recheck(
-                old.as_ptr(),
-                old.len(),
-                new.as_ptr(),
-                new.len(),
-                log.as_ptr(),
-                log.len(),
-                places.as_mut_ptr(),
-                places.len(),
-            )
-        })
+        same(raw::recheck(old, new, log, places))
     }
 
     fn same(answer: raw::Answer) -> Answer {

@@ -41,6 +41,23 @@ pub fn failures(cases: &[Known], answers: Answers) -> Vec<String> {
     told.collect()
 }
 
+/// A test for each table of known cases: what is named must give every answer and every place.
+#[macro_export]
+macro_rules! each_answer {
+    ($answers:expr, $name:expr) => {
+        $crate::each_answer!($answers, $name; bench vectors rules limits rechecks);
+    };
+    ($answers:expr, $name:expr; $($table:ident)*) => {$(
+        #[test]
+        fn $table() {
+            let cases = $crate::$table();
+            let failures = $crate::failures(&cases, &$answers);
+            assert!(failures.is_empty(), "{}", failures.join("\n"));
+            println!("{} known cases, {}", cases.len(), $name);
+        }
+    )*};
+}
+
 impl Known {
     fn failure(&self, answers: Answers) -> Option<String> {
         let lent: Vec<u32> = (0..self.places as u32).map(|k| k ^ 0xA5A5_0000).collect();
