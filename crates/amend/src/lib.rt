@@ -1,8 +1,8 @@
 // Which rows of a model changed: two models are held against each other word by word.
 use model;
 use model::ModelAnswer;
-use reading::RowNo;
 use words;
+use words::RowNo;
 ghost use mathlib.Core.Path.{_≡_};
 ghost use Prim.Native.Nat.{_+_, _≤_, _<_};
 ghost use lib.ListN.{length, take, drop};

@@ -2,7 +2,7 @@
 use checker::Answer;
 use checker::Conclusion;
 use checker::Rechecked;
-use reading::VarNo;
+use words::VarNo;
 
 pub fn text(s: &[u8]) {
     io::write_all(1, s);

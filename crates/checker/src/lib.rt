@@ -4,7 +4,7 @@ pub mod walk;
 
 use amend;
 use amend::Amended;
-use reading::VarNo;
+use words::VarNo;
 ghost use mathlib.Core.Path.{_≡_};
 ghost use Prim.Native.Nat.{_≤_};
 ghost use lib.ListN.{length};

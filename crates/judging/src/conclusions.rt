@@ -2,9 +2,9 @@
 use crate::Verdict;
 use crate::cited;
 use reading;
-use reading::FactNo;
-use reading::VarNo;
 use steps::FactPlace;
+use words::FactNo;
+use words::VarNo;
 ghost use mathlib.Core.Path.{_≡_};
 ghost use mathlib.Core.List.{[], map};
 ghost use mathlib.Core.Option.{some};

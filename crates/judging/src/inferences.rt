@@ -1,9 +1,9 @@
 // An inference: its row conflicts with the box of its fact.
 use crate::Verdict;
 use crate::boxes;
-use reading::RowNo;
 use rules;
 use steps::FactPlace;
+use words::RowNo;
 ghost use mathlib.Core.Path.{_≡_};
 ghost use Prim.Native.Nat.{_+_, _*_, _≤_, _<_};
 ghost use lib.ListN.{length};

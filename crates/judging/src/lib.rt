@@ -4,10 +4,10 @@ pub mod conclusions;
 pub mod deductions;
 pub mod inferences;
 
-use reading::FactNo;
 use steps;
 use steps::FactPlace;
 use steps::Step;
+use words::FactNo;
 ghost use mathlib.Core.Path.{_≡_};
 ghost use mathlib.Core.List.{map};
 ghost use Prim.Native.Nat.{_+_, _*_, _≤_, _<_};

@@ -9,13 +9,6 @@ ghost use Rattle.meaning.specs.Read.{word, count, below};
 ghost use Rattle.reading.specs.At.{natAt};
 ghost use Rattle.reading.specs.Told.{toldWord, toldNumber, noNumber, noWord, noCount};
 
-// Fact numbers, row numbers and variable numbers are three kinds.
-pub struct FactNo(pub usize);
-
-pub struct RowNo(pub usize);
-
-pub struct VarNo(pub usize);
-
 // A word and the position after it, or a refusal's number and position.
 pub enum Got {
     Word(i32, usize),

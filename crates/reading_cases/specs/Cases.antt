@@ -8,7 +8,7 @@ use lib.ListN.{length, getD, drop}
 use lib.Seq.{sets, length-sets}
 use Rattle.meaning.specs.Model.{linear, readModel}
 use Rattle.meaning.specs.Log as log
-use Rattle.reading.specs.declared.RowNo.{RowNo}
+use Rattle.words.specs.declared.RowNo.{RowNo}
 use Rattle.steps.specs.declared.FactPlace.{FactPlace}
 use Rattle.steps.specs.declared.Step.{Step}
 use Rattle.steps.specs.declared.Step.the-variants as step

@@ -1,4 +1,4 @@
-// Signed words, and tables of them.
+// Signed words, tables of them, and the three kinds of number.
 ghost use mathlib.Core.Path.{_≡_};
 ghost use Prim.Native.Nat.{_<_};
 ghost use lib.IntN.{pos, _*ℤ_};
@@ -6,6 +6,13 @@ ghost use lib.ListN.{length, getD, set};
 ghost use lib.Signed.{_≤ℤ_, leZ};
 ghost use Rattle.words.specs.Int.{eqZ};
 ghost use Rattle.words.specs.Words.{minZ, maxZ, inZ};
+
+// Fact numbers, row numbers and variable numbers are three kinds.
+pub struct FactNo(pub usize);
+
+pub struct RowNo(pub usize);
+
+pub struct VarNo(pub usize);
 
 pub fn at_most(a: i32, b: i32) -> bool
     ensures { λ r. ⌜ r ≡ leZ a b ⌝ }

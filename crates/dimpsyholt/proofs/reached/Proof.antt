@@ -5,8 +5,8 @@ use mir.Facts.{toZ-ofZ}
 use Rattle.words.specs.Int.{fit}
 use borrow.Author.Needs.{needs}
 use Rattle.checker.specs.Told.{ConclusionIn}
-use Rattle.gate.proofs.reached.Statement.{statement}
-use Rattle.gate.proofs.reached.Tie as tie
+use Rattle.dimpsyholt.proofs.reached.Statement.{statement}
+use Rattle.dimpsyholt.proofs.reached.Tie as tie
 
 -- the variable that is named is below 64
 cast-t8 : tie.Need-cast-t8

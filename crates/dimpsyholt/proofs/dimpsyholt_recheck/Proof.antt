@@ -1,9 +1,9 @@
 -- `dimpsyholt_recheck` meets its contract. Assumes nothing.
 use mathlib.Core.Path.{_∙_}
 use borrow.Author.Needs.{needs}
-use Rattle.gate.specs.Fields.{fields-same}
-use Rattle.gate.proofs.dimpsyholt_recheck.Statement.{statement}
-use Rattle.gate.proofs.dimpsyholt_recheck.Tie as tie
+use Rattle.dimpsyholt.specs.Fields.{fields-same}
+use Rattle.dimpsyholt.proofs.dimpsyholt_recheck.Statement.{statement}
+use Rattle.dimpsyholt.proofs.dimpsyholt_recheck.Tie as tie
 
 returns : tie.Need-returns
 returns c =

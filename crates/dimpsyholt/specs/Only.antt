@@ -6,8 +6,8 @@ use mathlib.Core.List.{List}
 use lib.Dec.{eqb}
 use lib.IntN.{ℤ}
 use Rattle.meaning.specs.Check as says
-use Rattle.gate.specs.Fields.{fieldsOf, CheckTold, RecheckTold}
-use Rattle.gate.specs.declared.DimpsyholtAnswer.{DimpsyholtAnswer}
+use Rattle.dimpsyholt.specs.Fields.{fieldsOf, CheckTold, RecheckTold}
+use Rattle.dimpsyholt.specs.declared.DimpsyholtAnswer.{DimpsyholtAnswer}
 
 -- two answers to one check are equal, and so are the places that they leave
 pub only-check : {r r′ : DimpsyholtAnswer} {lent left left′ : List ℕ} {o : says.Outcome} → CheckTold r lent left o → CheckTold r′ lent left′ o → (r ≡ r′) × (left ≡ left′)

@@ -2,8 +2,8 @@
 use mathlib.Core.Path.{subst}
 use borrow.Author.Needs.{needs}
 use Rattle.checker.specs.Told.{NamesIn}
-use Rattle.gate.proofs.fields.Statement.{statement}
-use Rattle.gate.proofs.fields.Tie as tie
+use Rattle.dimpsyholt.proofs.fields.Statement.{statement}
+use Rattle.dimpsyholt.proofs.fields.Tie as tie
 
 reached-requires : tie.Need-reached-requires
 reached-requires c κs = subst (NamesIn 64) (c .before .answer2 .given .1) (c .before .before .before .pre)

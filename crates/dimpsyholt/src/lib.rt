@@ -6,7 +6,7 @@ ghost use mathlib.Core.Path.{_≡_};
 ghost use lib.ListN.{length};
 ghost use Rattle.meaning.specs.Check as says;
 ghost use Rattle.checker.specs.Told.{toldConclusion, toldAnswer, ConclusionIn, NamesIn};
-ghost use Rattle.gate.specs.Fields.{reached, fieldsOf, CheckTold, RecheckTold};
+ghost use Rattle.dimpsyholt.specs.Fields.{reached, fieldsOf, CheckTold, RecheckTold};
 
 // The answer as include/dimpsyholt.h has it.
 #[repr(C)]
@@ -84,6 +84,14 @@ fn fields(answer: Answer, changed: u32, judged: u32) -> DimpsyholtAnswer
         Answer::Accepted(c) => reached(1, c, changed, judged),
         Answer::Carried(c) => reached(2, c, changed, judged),
     }
+}
+
+// The version of this interface, as include/dimpsyholt.h has it: two digits each for minor and patch.
+#[no_mangle]
+pub extern "C" fn dimpsyholt_version() -> u32
+    ensures { λ r. ⌜ r ≡ 10000 ⌝ }
+{
+    10000
 }
 
 // The log held against the model.

@@ -12,9 +12,9 @@ use Rattle.meaning.specs.Claims.{Concludes, SameVerdict, carries-so, accepts-so
 use Rattle.meaning.specs.Outcomes.{OnShut, Listed, model-long, log-long, places-few, model-ends, model-word, no-conclusion, step-cut, log-word, words-after, rule, ModelWrong, outside, twice, after}
 use Rattle.meaning.specs.Proved.{proved}
 use Rattle.meaning.specs.Proved.Faults.{fault-number}
-use Rattle.gate.specs.Fields.{fieldsOf, CheckTold, RecheckTold}
-use Rattle.gate.specs.Only.{conclusionOf, meant, read-back}
-use Rattle.gate.specs.declared.DimpsyholtAnswer.{DimpsyholtAnswer}
+use Rattle.dimpsyholt.specs.Fields.{fieldsOf, CheckTold, RecheckTold}
+use Rattle.dimpsyholt.specs.Only.{conclusionOf, meant, read-back}
+use Rattle.dimpsyholt.specs.declared.DimpsyholtAnswer.{DimpsyholtAnswer}
 
 read-so : (r : DimpsyholtAnswer) (a : says.Answer) (changed judged : ℕ) → r ≡ fieldsOf a changed judged → a ≡ meant r
 read-so r a changed judged e = sym (ap meant e ∙ read-back a changed judged)

@@ -5,7 +5,7 @@ use mathlib.Core.List.{List, _++_}
 use lib.IntN.{pos}
 use lib.ListN.{length, drop}
 use Rattle.meaning.specs.Check as says
-use Rattle.gate.specs.declared.DimpsyholtAnswer.{DimpsyholtAnswer}
+use Rattle.dimpsyholt.specs.declared.DimpsyholtAnswer.{DimpsyholtAnswer}
 
 -- a conclusion that was reached, by kind 1 (accepted) or 2 (carried)
 abbrev pub reached : ℕ → says.Conclusion → ℕ → ℕ → DimpsyholtAnswer
