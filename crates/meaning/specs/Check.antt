@@ -6,6 +6,7 @@ use mathlib.Core.Option.{some}
 use lib.Dec.{ltb, eqb}
 use lib.ListN.{length, getD}
 use lib.IntN.{ℤ, pos}
+use Rattle.meaning.specs.Limits.{mostModelWords, mostLogWords, fewestPlaces}
 use Rattle.meaning.specs.Read.{Got, got, refused}
 use Rattle.meaning.specs.Model.{Model, Bounds, Row, readModel, rowWords}
 use Rattle.meaning.specs.Log.{atMost, Atom, Fact, Step, inference, deduction, noAssignment, neverBelow, step}
@@ -131,7 +132,7 @@ admitted false false false (refused num p) next = shutEarly num p
 admitted false false false (got m at ws) next = next m
 
 abbrev pub guarded : List ℤ → List ℤ → ℕ → (Model → Outcome) → Outcome
-guarded model log places next = admitted (ltb 4096 (length model)) (ltb 16384 (length log)) (ltb places 4096) (readModel 0 model) next
+guarded model log places next = admitted (ltb mostModelWords (length model)) (ltb mostLogWords (length log)) (ltb places fewestPlaces) (readModel 0 model) next
 
 -- `places`: how many places are lent
 abbrev pub check : List ℤ → List ℤ → ℕ → Outcome
@@ -150,7 +151,7 @@ goodOf false (refused num p) = bad
 goodOf false (got m at ws) = good m
 
 abbrev pub readGood : List ℤ → Good
-readGood model = goodOf (ltb 4096 (length model)) (readModel 0 model)
+readGood model = goodOf (ltb mostModelWords (length model)) (readModel 0 model)
 
 abbrev pub sameWords : List ℤ → List ℤ → Bool
 sameWords [] [] = true

@@ -3,6 +3,7 @@ use Prim.Native.Nat.{ℕ, zero, suc}
 use mathlib.Core.List.{List}
 use mathlib.Core.Option.{Option, none, some}
 use lib.IntN.{ℤ, pos}
+use Rattle.meaning.specs.Limits.{mostValue, mostPremises, mostHints}
 use Rattle.meaning.specs.Read.{Reader, _>>=_, give, refuse, neg, word, count, below, times}
 
 pub data Relation : Type 0 where
@@ -28,7 +29,7 @@ abbrev pub number : ℕ → ℕ → Reader ℕ
 number = count 11 12
 
 abbrev pub value : Reader ℤ
-value = word 11 12 (neg 100000) (pos 100000)
+value = word 11 12 (neg mostValue) (pos mostValue)
 
 abbrev pub numberBelow : ℕ → Reader ℕ
 numberBelow = below 11 12
@@ -56,7 +57,7 @@ consequentOf v (suc q) = do
 
 abbrev pub fact : ℕ → Reader Fact
 fact v = do
-  p ← number 0 16
+  p ← number 0 mostPremises
   ps ← times p (atom v)
   q ← number 0 1
   c ← consequentOf v q
@@ -71,7 +72,7 @@ stepOfKind v c k (suc zero) = do
   give (inference r f)
 stepOfKind v c k (suc (suc zero)) = do
   f ← fact v
-  h ← number 0 64
+  h ← number 0 mostHints
   hs ← times h (numberBelow k)
   give (deduction f hs)
 stepOfKind v c k (suc (suc (suc zero))) = do

@@ -5,6 +5,7 @@ use mathlib.Core.List.{List, [], _∷_}
 use lib.ListN.{length}
 use lib.Dec.{eqb}
 use lib.IntN.{ℤ, pos}
+use Rattle.meaning.specs.Limits.{mostVariables, mostRows, mostParts, mostValue, mostCoefficient, mostDuration, mostUsage}
 use Rattle.meaning.specs.Read.{Reader, Got, got, refused, _>>=_, give, refuse, neg, word, count, below, times}
 use Rattle.words.specs.Lists.{member}
 
@@ -41,8 +42,8 @@ integer = word 4 5
 -- high is held against the low just read
 abbrev pub boundsPair : Reader Bounds
 boundsPair = do
-  l ← integer (neg 100000) (pos 100000)
-  h ← integer l (pos 100000)
+  l ← integer (neg mostValue) (pos mostValue)
+  h ← integer l (pos mostValue)
   give (record { low = l; high = h })
 
 -- the number of one of v variables
@@ -67,36 +68,36 @@ distinct v (suc n) seen = do
 
 abbrev pub term : ℕ → Reader Term
 term v = do
-  c ← integer (neg 1000000) (pos 1000000)
+  c ← integer (neg mostCoefficient) (pos mostCoefficient)
   x ← variableOf v
   give (record { coefficient = c; variable = x })
 
 abbrev pub activity : ℕ → Reader Activity
 activity v = do
   x ← variableOf v
-  d ← number 1 10000
-  u ← number 0 1000000
+  d ← number 1 mostDuration
+  u ← number 0 mostUsage
   give (record { start = x; duration = d; usage = u })
 
 -- the rest of a row after its kind, which is 1 to 4
 abbrev pub rowOfKind : ℕ → ℕ → Reader Row
 rowOfKind v zero = refuse 5
 rowOfKind v (suc zero) = do
-  n ← number 1 16
+  n ← number 1 mostParts
   b ← integer (neg 2147483648) (pos 2147483647)
   ts ← times n (term v)
   give (linear b ts)
 rowOfKind v (suc (suc zero)) = do
-  n ← number 2 16
+  n ← number 2 mostParts
   xs ← distinct v n []
   give (allDifferent xs)
 rowOfKind v (suc (suc (suc zero))) = do
-  n ← number 1 16
-  c ← number 0 1000000
+  n ← number 1 mostParts
+  c ← number 0 mostUsage
   acts ← times n (activity v)
   give (cumulative c acts)
 rowOfKind v (suc (suc (suc (suc k)))) = do
-  n ← number 2 16
+  n ← number 2 mostParts
   xs ← distinct v n []
   give (circuit xs)
 
@@ -112,9 +113,9 @@ end m at (w ∷ ws) = refused 7 at
 
 abbrev pub readModel : Reader Model
 readModel = do
-  v ← number 1 64
+  v ← number 1 mostVariables
   bs ← times v boundsPair
-  c ← number 0 64
+  c ← number 0 mostRows
   rs ← times c (row v)
   end (record { bounds = bs; rows = rs })
 
