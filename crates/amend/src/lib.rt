@@ -1,6 +1,8 @@
 // Which rows of a model changed: two models are held against each other word by word.
 use model;
 use model::ModelAnswer;
+use reading::limits::MOST_MODEL_WORDS;
+use reading::limits::MOST_ROWS;
 use words;
 use words::RowNo;
 ghost use mathlib.Core.Path.{_≡_};
@@ -99,10 +101,10 @@ pub fn compare(old: &[i32], new: &[i32], starts: &[u32], variables: usize, rows:
         whole: true,
         changed: 0,
     };
-    if old.len() > 4096 {
+    if old.len() > MOST_MODEL_WORDS {
         return whole;
     }
-    let mut olds = [0u32; 64];
+    let mut olds = [0u32; MOST_ROWS];
     let read = model::read_model(old, &mut olds);
     let ModelAnswer::Good {
         variables: v,

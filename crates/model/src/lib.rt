@@ -3,6 +3,10 @@ use reading;
 use reading::Got;
 use reading::Number;
 use reading::Past;
+use reading::limits::MOST_VARIABLES;
+use reading::refusals::MODEL_ENDS_EARLY;
+use reading::refusals::MODEL_WORD_OUTSIDE;
+use reading::refusals::WORDS_AFTER_MODEL;
 use words;
 use words::VarNo;
 ghost use mathlib.Core.Path.{_≡_};
@@ -289,7 +293,14 @@ pub fn read_model(s: &[i32], starts: &mut [u32]) -> ModelAnswer
     ensures read { λ r. ⌜ toldModel r ≡ saysModel (readModel 0 (now (s .entry))) ⌝ }
     ensures noted { λ r. ⌜ now (starts .exit) ≡ sets (now (starts .entry)) 0 (modelStarts (now (s .entry))) ⌝ }
 {
-    let g = reading::count(s, 0, 4, 5, 1, 64);
+    let g = reading::count(
+        s,
+        0,
+        MODEL_ENDS_EARLY,
+        MODEL_WORD_OUTSIDE,
+        1,
+        MOST_VARIABLES,
+    );
     let Number::Is(v, first) = g else {
         return no_model(reading::no_count(g));
     };
@@ -306,7 +317,7 @@ pub fn read_model(s: &[i32], starts: &mut [u32]) -> ModelAnswer
         return no_model(p);
     };
     if end < s.len() {
-        return ModelAnswer::Refused(7, end);
+        return ModelAnswer::Refused(WORDS_AFTER_MODEL, end);
     }
     ModelAnswer::Good {
         variables: v,

@@ -1,4 +1,7 @@
 // Reading a lent table of signed words: a word or a number within its range, else the numbered refusal with its position.
+pub mod limits;
+pub mod refusals;
+
 use words;
 ghost use mathlib.Core.Path.{_≡_};
 ghost use Prim.Native.Nat.{_≤_, _<_, _^_};
