@@ -1,24 +1,11 @@
-// The bench: logs of document 01 and of the source documents, and rechecks, each judged and told in a line of words.
-mod circuit;
-mod cumulative;
-mod deductions;
-mod distinct;
-mod example;
-mod linear;
-mod lines;
-mod print;
-mod rechecks;
-mod refusals;
-mod rows;
+// Cases of a text, each a model, a log and perhaps an old model, and what the C interface answers: file stdin says how they are written.
+mod cases;
+mod show;
 
 fn main() {
-    example::all();
-    rows::all();
-    refusals::all();
-    rechecks::all();
-    distinct::all();
-    linear::all();
-    cumulative::all();
-    circuit::all();
-    deductions::all();
+    let mut text = io::large_buffer();
+    let n = io::read_full(0, &mut text);
+    let mut words = [0i32; 24579];
+    let mut places = [0u32; 4096];
+    cases::all(&text[..n], &mut words, &mut places);
 }

@@ -1,31 +1,7 @@
 // The lines of the input: a name that begins with the letter of what is asked, a colon, and words.
-use crate::input;
-use crate::input::Word;
 use crate::show;
-ghost use Prim.Native.Nat.{_≤_};
-ghost use lib.ListN.{length};
-
-// The words of a line are put into a table: how many.
-fn fill(text: &[u8], from: usize, words: &mut [i32]) -> usize
-    ensures { λ r. ⌜ r ≤ length (now (words .exit)) ⌝ }
-{
-    let mut at = from;
-    let mut n: usize = 0;
-    while n < words.len() {
-        let w = input::next_word(text, at);
-        let Word::Is(value, next) = w else {
-            return n;
-        };
-        words[n] = value;
-        at = next;
-        n += 1;
-    }
-    n
-}
-
-fn number(w: i32) -> usize {
-    if w < 0 { 0 } else { words::index(w) }
-}
+use lines;
+use lines::number;
 
 // A step: its position, its number, how many variables and rows there are, and the log's words.
 fn step(words: &[i32], again: bool) {
@@ -54,7 +30,7 @@ fn asked(letter: u8, words: &[i32]) {
 }
 
 fn line(text: &[u8], from: usize) {
-    let colon = input::find(text, from, 58);
+    let colon = lines::find(text, from, 58);
     if text.len() <= colon {
         return;
     }
@@ -64,7 +40,7 @@ fn line(text: &[u8], from: usize) {
     show::text(&text[from..colon]);
     show::text(b": ");
     let mut words = [0i32; 400];
-    let n = fill(text, colon + 1, &mut words);
+    let n = lines::fill(text, colon + 1, &mut words, 0, 400);
     asked(text[from], &words[..n]);
     show::text(b"\n");
 }
@@ -73,7 +49,7 @@ pub fn all(text: &[u8]) {
     let mut at = 0;
     while at < text.len() {
         line(text, at);
-        let end = input::find(text, at, 10);
+        let end = lines::find(text, at, 10);
         if text.len() <= end {
             return;
         }

@@ -1,6 +1,5 @@
 // Good and bad tables from the standard input, and what reading them answers.
 mod cases;
-mod input;
 mod show;
 
 fn main() {

@@ -4,7 +4,6 @@ use borrow.Author.Needs.{needs}
 use Rattle.reading_cases.proofs.cases.all.Statement.{statement}
 use Rattle.reading_cases.proofs.cases.all.Tie as tie
 use Rattle.reading_cases.proofs.cases.line.Reads as line-reads
-use Rattle.reading_cases.proofs.input.find.Reads as find-reads
 
 abbrev Inv-loop : tie.InvT-loop
 Inv-loop text at₀ at = at ≤ length text

@@ -6,12 +6,10 @@ use borrow.Author.Needs.{needs}
 use Rattle.reading_cases.proofs.cases.line.Statement.{statement}
 use Rattle.reading_cases.proofs.cases.line.Tie as tie
 use Rattle.reading_cases.proofs.cases.asked.Reads as asked-reads
-use Rattle.reading_cases.proofs.cases.fill.Reads as fill-reads
-use Rattle.reading_cases.proofs.input.find.Reads as find-reads
 use Rattle.reading_cases.proofs.show.text.Reads as text-reads
 
 slice-aggregate-asked : tie.Need-slice-aggregate-asked
-slice-aggregate-asked c = sym (length-take-le _ _ (c .before .before .before .fill .ensures))
+slice-aggregate-asked c = let f = c .before .before .before .fill .ensures in sym (length-take-le _ _ (omega (arith, f .1, f .2)))
 
 pub line-spec : {M : Type 1} → statement M
 line-spec =

@@ -1,8 +1,0 @@
-use native.Mathlib.Omega.{arith}
-use Rattle.words.specs.Int.{zz}
-use borrow.Author.Needs.{needs}
-use Rattle.reading_cases.proofs.cases.number.Statement.{statement}
-use Rattle.reading_cases.proofs.cases.number.Tie as tie
-
-pub number-spec : {M : Type 1} → statement M
-number-spec = tie.close (tie.spec (λ c κs. omega (arith, zz)) (λ c. search needs) (λ c. search needs))
