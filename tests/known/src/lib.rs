@@ -1,17 +1,11 @@
 //! Cases whose answers are known from the documents, for everything that answers.
 
-mod bench;
 mod limits;
-mod rechecks;
-mod rules;
-mod vectors;
+mod written;
 
-pub use bench::{bench, whole_example};
 pub use limits::limits;
-pub use rechecks::rechecks;
-pub use rules::rules;
-use tables::{log_words, model_words, Answer, Conclusion, Model, Step};
-pub use vectors::vectors;
+use tables::{Answer, Conclusion};
+pub use written::written;
 
 /// A case, its answer and the places that it writes; the rest stay as lent.
 #[derive(Clone, Debug)]
@@ -29,7 +23,7 @@ pub struct Known {
 
 /// Every known case.
 pub fn all() -> Vec<Known> {
-    [bench(), vectors(), rules(), limits(), rechecks()].concat()
+    [written(), limits()].concat()
 }
 
 /// What answers: the old model (for a recheck), the model, the log, the places.
@@ -45,7 +39,7 @@ pub fn failures(cases: &[Known], answers: Answers) -> Vec<String> {
 #[macro_export]
 macro_rules! each_answer {
     ($answers:expr, $name:expr) => {
-        $crate::each_answer!($answers, $name; bench vectors rules limits rechecks);
+        $crate::each_answer!($answers, $name; written limits);
     };
     ($answers:expr, $name:expr; $($table:ident)*) => {$(
         #[test]
@@ -86,34 +80,11 @@ fn case(name: &str, model: &[i32], log: &[i32], answer: Answer, written: &[u32])
     }
 }
 
-/// A log that ends after its steps have all passed or at the one that is refused.
-///
-/// The last verdict is that of the last step; all before it pass.
-fn steps(name: &str, model: &Model, steps: &[Step], last: Verdict) -> Known {
-    let log = log_words(steps);
-    let mut starts: Vec<u32> = (0..steps.len())
-        .map(|count| log_words(&steps[..count]).len() as u32)
-        .collect();
-    let answer = match last {
-        Verdict::Pass => Answer::refused(10, steps.len(), log.len()),
-        Verdict::Refused(number, position) => {
-            starts.pop();
-            Answer::refused(number, steps.len() - 1, position)
-        }
-    };
-    case(name, &model_words(model), &log, answer, &starts)
+/// The whole example of the documents, the first case of the file: its model and its log.
+pub fn whole_example() -> (Vec<i32>, Vec<i32>) {
+    let cases = written();
+    (cases[0].model.clone(), cases[0].log.clone())
 }
-
-/// What becomes of the last step of a log without a conclusion.
-#[derive(Clone, Copy)]
-enum Verdict {
-    Pass,
-    /// The number and the position.
-    Refused(u32, usize),
-}
-
-const PASS: Verdict = Verdict::Pass;
-const NO_CONFLICT: Verdict = Verdict::Refused(21, 0);
 
 fn no_assignment() -> Answer {
     Answer::accepted(Conclusion::NoAssignment)
