@@ -1,6 +1,6 @@
 //! All-different: fewer values than variables, over the variables that occur in the fact.
 
-use crate::domains::Domains;
+use crate::domains::{Domains, WINDOW};
 
 /// The row is kind, n, then variables.
 pub fn conflicts(row: &[i32], domains: &Domains) -> bool {
@@ -22,23 +22,16 @@ pub fn conflicts(row: &[i32], domains: &Domains) -> bool {
     }
     match high - low {
         span if span + 1 < count as i32 => true,
-        span if span < 128 => count_in_window(chosen, low, domains) < count,
+        span if span < WINDOW => count_in_window(chosen, low, domains) < count,
         _ => few_values(chosen, domains),
     }
 }
 
-/// The number of values, all of which lie within 128 from `base` on.
+/// The number of values, all of which lie within one window from `base` on.
 fn count_in_window(chosen: &[usize], base: i32, domains: &Domains) -> usize {
-    let mut union = 0u128;
-    for &variable in chosen {
-        let (low, high) = (domains.low(variable), domains.high(variable));
-        let width = high - low + 1;
-        let mut bits = (u128::MAX >> (128 - width)) << (low - base);
-        for hole in domains.holes_within(variable, low, high) {
-            bits &= !(1 << (hole - base));
-        }
-        union |= bits;
-    }
+    let union = chosen
+        .iter()
+        .fold(0, |union, &variable| union | domains.window(variable, base));
     union.count_ones() as usize
 }
 

@@ -9,32 +9,12 @@ use crate::domains::Domains;
 /// if the first one reaches all and all reach the first.
 pub fn conflicts(row: &[i32], domains: &Domains) -> bool {
     let variables = &row[2..];
-    let n = variables.len();
-    let mut leads_to = [0u32; 16];
-    let mut leads_from = [0u32; 16];
-    for (position, &variable) in variables.iter().enumerate() {
-        let bits = named(variable as usize, n, domains);
-        leads_to[position] = bits;
-        for (next, from) in leads_from.iter_mut().enumerate() {
-            *from |= (bits >> next & 1) << position;
-        }
+    let all = (1u32 << variables.len()) - 1;
+    let mut leads_to = [0; 16];
+    for (links, &variable) in leads_to.iter_mut().zip(variables) {
+        *links = domains.window(variable as usize, 0) as u32 & all;
     }
-    let all = (1u32 << n) - 1;
-    reached(&leads_to) != all || reached(&leads_from) != all
-}
-
-/// The positions that the values left name, one bit for each.
-fn named(variable: usize, n: usize, domains: &Domains) -> u32 {
-    let low = domains.low(variable).max(0);
-    let high = domains.high(variable).min(n as i32 - 1);
-    if low > high {
-        return 0;
-    }
-    let mut bits = (2u32 << high) - (1 << low);
-    for hole in domains.holes_within(variable, low, high) {
-        bits &= !(1 << hole);
-    }
-    bits
+    reached(&leads_to) != all || reaching(&leads_to) != all
 }
 
 /// The positions that can be reached from the first one.
@@ -49,4 +29,19 @@ fn reached(leads_to: &[u32; 16]) -> u32 {
         fresh |= next;
     }
     seen
+}
+
+/// The positions from which the first one can be reached.
+fn reaching(leads_to: &[u32; 16]) -> u32 {
+    let mut seen = 1;
+    loop {
+        let before = seen;
+        for (position, &next) in leads_to.iter().enumerate() {
+            let leads_on = next & seen != 0;
+            seen |= (leads_on as u32) << position;
+        }
+        if seen == before {
+            return seen;
+        }
+    }
 }

@@ -5,11 +5,12 @@ use crate::domains::Domains;
 const MOST: usize = 16;
 
 /// Runs surely from `from` up to but not at `to`; nowhere if `to` is not above `from`.
+/// All usages of a row together fit in a word.
 #[derive(Clone, Copy, Default)]
 struct Sure {
     from: i32,
     to: i32,
-    usage: i64,
+    usage: i32,
 }
 
 /// A stretch of time with the same sure usage throughout.
@@ -17,12 +18,12 @@ struct Sure {
 struct Stretch {
     from: i32,
     to: i32,
-    usage: i64,
+    usage: i32,
 }
 
 /// The row is kind, n, capacity, then triples of start, duration and usage.
 pub fn conflicts(row: &[i32], domains: &Domains) -> bool {
-    let capacity = row[2] as i64;
+    let capacity = row[2];
     let mut sure = [Sure::default(); MOST];
     let mut count = 0;
     for activity in row[3..].chunks_exact(3) {
@@ -32,11 +33,17 @@ pub fn conflicts(row: &[i32], domains: &Domains) -> bool {
     let mut stretches = [Stretch::default(); 2 * MOST];
     let length = profile(&sure[..count], &mut stretches);
     let stretches = &stretches[..length];
-    if stretches.iter().any(|stretch| stretch.usage > capacity) {
+    let peak = stretches.iter().fold(0, |most, s| most.max(s.usage));
+    if peak > capacity {
         return true;
     }
     let mut pairs = row[3..].chunks_exact(3).zip(&sure);
-    pairs.any(|(activity, own)| has_no_start(activity, own, capacity, stretches, domains))
+    pairs.any(|(activity, own)| {
+        let fits_beside_the_peak = peak + own.usage <= capacity;
+        // all of it is sure, and the sure usages are within the capacity
+        let fixed = own.to - own.from == activity[1];
+        !fits_beside_the_peak && !fixed && has_no_start(activity, own, capacity, stretches, domains)
+    })
 }
 
 fn sure_part(activity: &[i32], domains: &Domains) -> Sure {
@@ -44,7 +51,7 @@ fn sure_part(activity: &[i32], domains: &Domains) -> Sure {
     Sure {
         from: domains.high(variable),
         to: domains.low(variable) + activity[1],
-        usage: activity[2] as i64,
+        usage: activity[2],
     }
 }
 
@@ -79,7 +86,7 @@ fn profile(sure: &[Sure], stretches: &mut [Stretch; 2 * MOST]) -> usize {
 fn has_no_start(
     activity: &[i32],
     own: &Sure,
-    capacity: i64,
+    capacity: i32,
     stretches: &[Stretch],
     domains: &Domains,
 ) -> bool {

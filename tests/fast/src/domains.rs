@@ -1,7 +1,10 @@
 //! The box: an interval for each variable and one short list of holes for all.
 
 use crate::step::Fact;
-use tables::limits::{HINTS, PREMISES, VARIABLES};
+use tables::limits::{HINTS, PREMISES, VALUE, VARIABLES};
+
+/// So many values have a bit each in one word.
+pub const WINDOW: i32 = u64::BITS as i32;
 
 const SIZE: usize = VARIABLES as usize;
 /// Each premise, the consequent and each hint makes at most one hole.
@@ -11,8 +14,8 @@ pub struct Domains {
     declared: [(i32, i32); SIZE],
     /// The ends of each set; an end is never a hole.
     ends: [(i32, i32); SIZE],
-    /// Variable and value in one number, so that looking for one is a plain scan.
-    holes: [u64; MOST_HOLES],
+    /// Variable and value in one word, so that looking for one is a plain scan.
+    holes: [u32; MOST_HOLES],
     count: usize,
     /// One bit per variable that has holes.
     holed: u64,
@@ -153,32 +156,43 @@ impl Domains {
         }
     }
 
+    /// The values left among the 64 from `base` on, one bit for each.
+    pub fn window(&self, variable: usize, base: i32) -> u64 {
+        let low = self.low(variable).max(base);
+        let high = self.high(variable).min(base + (WINDOW - 1));
+        if low > high {
+            return 0;
+        }
+        let mut bits = u64::MAX >> (WINDOW - 1 - (high - low)) << (low - base);
+        for hole in self.holes_within(variable, low, high) {
+            bits &= !(1 << (hole - base));
+        }
+        bits
+    }
+
     /// How many values are left.
     pub fn size(&self, variable: usize) -> i32 {
         let (low, high) = self.ends[variable];
         high - low + 1 - self.holes_within(variable, low, high).count() as i32
     }
 
-    /// The holes of a variable that lie in low..=high.
-    pub fn holes_within(
-        &self,
-        variable: usize,
-        low: i32,
-        high: i32,
-    ) -> impl Iterator<Item = i32> + '_ {
+    /// The holes of a variable that lie in low..=high, which are values of its set or holes in it.
+    fn holes_within(&self, variable: usize, low: i32, high: i32) -> impl Iterator<Item = i32> + '_ {
         let count = if self.has_holes(variable) {
             self.count
         } else {
             0
         };
+        let (first, last) = (key(variable, low), key(variable, high));
         self.holes[..count]
             .iter()
-            .filter(move |&&hole| hole >> 32 == variable as u64)
-            .map(|&hole| hole as i32)
-            .filter(move |&value| low <= value && value <= high)
+            .filter(move |&&hole| first <= hole && hole <= last)
+            .map(move |&hole| low + (hole - first) as i32)
     }
 }
 
-fn key(variable: usize, value: i32) -> u64 {
-    (variable as u64) << 32 | value as u32 as u64
+/// The keys of a variable are in the order of its values, and those of another lie outside.
+fn key(variable: usize, value: i32) -> u32 {
+    const VALUE_BITS: u32 = (2 * VALUE as u32).ilog2() + 1;
+    (variable as u32) << VALUE_BITS | (value + VALUE) as u32
 }
