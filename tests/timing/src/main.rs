@@ -1,68 +1,32 @@
 //! Times the library against the fast version and the reference, on the same tables in one run.
 //!
-//! Each figure is the median of several rounds. A ratio below 1 means that the library is faster.
+//! Without arguments it prints the tables of the performance document. `search SECONDS SEED` looks
+//! for logs that cost more. `one NAME SUBJECT CALLS` only calls, for a profiler to watch.
 
+mod bare;
+mod everyday;
+mod family;
+mod holes;
 mod measure;
-mod scenarios;
+mod one;
+mod report;
+mod scenario;
 mod steps;
-
-use measure::{medians, Subject};
-use scenarios::Scenario;
-
-/// The subjects in the order of the columns.
-const SUBJECTS: [(&str, Subject); 3] = [
-    ("library", held::answer),
-    ("fast", fast_answer),
-    ("reference", reference_answer),
-];
-
-fn fast_answer(old: Option<&[i32]>, model: &[i32], log: &[i32], p: &mut [u32]) -> tables::Answer {
-    match old {
-        Some(old) => fast::recheck(old, model, log, p),
-        None => fast::check(model, log, p),
-    }
-}
-
-fn reference_answer(
-    old: Option<&[i32]>,
-    model: &[i32],
-    log: &[i32],
-    p: &mut [u32],
-) -> tables::Answer {
-    match old {
-        Some(old) => reference::recheck(old, model, log, p),
-        None => reference::check(model, log, p),
-    }
-}
+mod subjects;
 
 fn main() {
-    println!("library: {}", held::LIBRARY);
-    println!(
-        "{:36} {:>6} {:>6} {:>12} {:>12} {:>12} {:>8} {:>8}",
-        "", "words", "steps", "library", "fast", "reference", "/fast", "/ref"
-    );
-    for scenario in scenarios::all() {
-        print_line(&scenario);
+    let arguments: Vec<String> = std::env::args().skip(1).collect();
+    let words: Vec<&str> = arguments.iter().map(String::as_str).collect();
+    match words[..] {
+        [] => report::print(),
+        ["one", name, subject, calls] => one::run(name, subject, number(calls)),
+        _ => panic!("no arguments, or: search SECONDS SEED, or: one NAME SUBJECT CALLS"),
     }
-    println!();
-    steps::print_cost_of_a_step(&SUBJECTS);
 }
 
-fn print_line(scenario: &Scenario) {
-    let times = medians(scenario, &SUBJECTS);
-    println!(
-        "{:36} {:>6} {:>6} {:>12} {:>12} {:>12} {:>8.2} {:>8.4}",
-        scenario.name,
-        scenario.log.len(),
-        scenario.steps,
-        micros(times[0]),
-        micros(times[1]),
-        micros(times[2]),
-        times[0] / times[1],
-        times[0] / times[2],
-    );
-}
-
-fn micros(seconds: f64) -> String {
-    format!("{:.2} us", seconds * 1e6)
+fn number<T: std::str::FromStr>(word: &str) -> T {
+    let Ok(number) = word.parse() else {
+        panic!("{word} is not a number");
+    };
+    number
 }

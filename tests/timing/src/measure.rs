@@ -1,33 +1,57 @@
 //! Medians of rounds in which the subjects take turns.
 
-use crate::scenarios::Scenario;
+use crate::scenario::Scenario;
+use crate::subjects::Subject;
 use std::hint::black_box;
 use tables::limits::PLACES;
 use tables::Answer;
 
-/// The old model (for a recheck), the model, the log, the places.
-pub type Subject = fn(Option<&[i32]>, &[i32], &[i32], &mut [u32]) -> Answer;
+/// How long and how often to measure.
+#[derive(Clone, Copy)]
+pub struct Effort {
+    rounds: usize,
+    /// A round of one subject takes about this long, so that the clock does not matter.
+    round_seconds: f64,
+}
 
-const ROUNDS: usize = 15;
-/// A round of one subject takes about this long, so that the clock does not matter.
-const ROUND_SECONDS: f64 = 0.01;
+pub const THOROUGH: Effort = Effort {
+    rounds: 21,
+    round_seconds: 0.01,
+};
+/// For tables of many logs.
+pub const BRIEF: Effort = Effort {
+    rounds: 11,
+    round_seconds: 0.004,
+};
+
 /// A subject that needs longer than this for one call gets no further rounds.
 const DEAR_SECONDS: f64 = 0.5;
 
-/// Seconds for one call, for each subject; all must give the same answer.
-pub fn medians(scenario: &Scenario, subjects: &[(&str, Subject)]) -> Vec<f64> {
+/// What one call took.
+pub struct Times {
+    /// Seconds, for each subject.
+    pub seconds: Vec<f64>,
+    /// The first subject to each, round by round, so that what slows the machine slows both.
+    pub ratios: Vec<f64>,
+}
+
+/// All subjects must give the same answer, of the kind that is expected.
+pub fn measure(scenario: &Scenario, subjects: &[(&str, Subject)], effort: Effort) -> Times {
     let mut places = vec![0; PLACES];
     let mut rounds: Vec<Vec<f64>> = Vec::new();
     let mut calls = Vec::new();
+    let mut first = None;
     for (name, subject) in subjects {
-        let begun = seconds();
+        let begun = processor_seconds();
         let answer = call(*subject, scenario, &mut places);
-        let once = seconds() - begun;
-        assert_eq!(answer.kind, scenario.kind, "{}, {name}", scenario.name);
-        calls.push((ROUND_SECONDS / once).ceil().clamp(1.0, 1e6) as usize);
+        let once = processor_seconds() - begun;
+        let kind = scenario.kind as u32;
+        assert_eq!(answer.kind, kind, "{}, {name}: {answer:?}", scenario.name);
+        assert_eq!(answer, *first.get_or_insert(answer), "{}", scenario.name);
+        calls.push((effort.round_seconds / once).ceil().clamp(1.0, 1e6) as usize);
         rounds.push(vec![once]);
     }
-    for round in 0..ROUNDS {
+    for round in 0..effort.rounds {
         for (index, (_, subject)) in subjects.iter().enumerate() {
             if rounds[index][0] > DEAR_SECONDS {
                 continue;
@@ -35,14 +59,24 @@ pub fn medians(scenario: &Scenario, subjects: &[(&str, Subject)]) -> Vec<f64> {
             if round == 0 {
                 rounds[index].clear(); // the first call met cold caches
             }
-            let begun = seconds();
+            let begun = processor_seconds();
             for _ in 0..calls[index] {
                 black_box(call(*subject, scenario, &mut places));
             }
-            rounds[index].push((seconds() - begun) / calls[index] as f64);
+            rounds[index].push((processor_seconds() - begun) / calls[index] as f64);
         }
     }
-    rounds.into_iter().map(median).collect()
+    Times {
+        ratios: rounds
+            .iter()
+            .map(|other| ratio(&rounds[0], other))
+            .collect(),
+        seconds: rounds.into_iter().map(median).collect(),
+    }
+}
+
+fn ratio(ours: &[f64], theirs: &[f64]) -> f64 {
+    median(ours.iter().zip(theirs).map(|(a, b)| a / b).collect())
 }
 
 #[repr(C)]
@@ -56,7 +90,7 @@ extern "C" {
 }
 
 /// The processor time of this thread, which other work on the machine does not add to.
-fn seconds() -> f64 {
+pub fn processor_seconds() -> f64 {
     const THREAD_CPU_TIME: i32 = 3;
     let mut time = Time {
         seconds: 0,
@@ -68,7 +102,7 @@ fn seconds() -> f64 {
     time.seconds as f64 + time.nanoseconds as f64 * 1e-9
 }
 
-fn call(subject: Subject, scenario: &Scenario, places: &mut [u32]) -> Answer {
+pub fn call(subject: Subject, scenario: &Scenario, places: &mut [u32]) -> Answer {
     subject(
         black_box(scenario.old.as_deref()),
         black_box(&scenario.model),

@@ -1,7 +1,8 @@
 //! What one more step costs early and late in a log.
 
-use crate::measure::{medians, Subject};
-use crate::scenarios::{checked, Scenario};
+use crate::measure::{measure, THOROUGH};
+use crate::scenario::{checked, Scenario};
+use crate::subjects::Subject;
 use tables::{Fact, Model, Row, Step};
 
 /// The slope between two logs of so many steps.
@@ -11,8 +12,11 @@ const LATE: (usize, usize) = (3_000, 4_000);
 const LATE_DEDUCTIONS: (usize, usize) = (2_200, 3_200);
 
 pub fn print_cost_of_a_step(subjects: &[(&str, Subject)]) {
+    println!("| Step | Subject | Around step 40 | Late | Late to early |");
+    println!("|---|---|---|---|---|");
     print_kind("inference", inference, LATE, subjects);
-    print_kind("deduction", deduction, LATE_DEDUCTIONS, subjects);
+    let name = "deduction that cites the first fact";
+    print_kind(name, deduction, LATE_DEDUCTIONS, subjects);
 }
 
 fn print_kind(kind: &str, make: Make, range: (usize, usize), subjects: &[(&str, Subject)]) {
@@ -20,10 +24,11 @@ fn print_kind(kind: &str, make: Make, range: (usize, usize), subjects: &[(&str, 
     let late = slopes(range, make, subjects);
     for (index, (name, _)) in subjects.iter().enumerate() {
         println!(
-            "one {kind}, {name}: {:.1} ns around step 40, {:.1} ns up to step {}",
+            "| {kind}, up to step {} | {name} | {:.1} ns | {:.1} ns | {:.2} |",
+            range.1,
             early[index] * 1e9,
             late[index] * 1e9,
-            range.1
+            late[index] / early[index]
         );
     }
 }
@@ -46,8 +51,8 @@ fn deduction() -> Step {
 }
 
 fn slopes(range: (usize, usize), make: Make, subjects: &[(&str, Subject)]) -> Vec<f64> {
-    let short = medians(&log(range.0, make), subjects);
-    let long = medians(&log(range.1, make), subjects);
+    let short = measure(&log(range.0, make), subjects, THOROUGH).seconds;
+    let long = measure(&log(range.1, make), subjects, THOROUGH).seconds;
     let added = (range.1 - range.0) as f64;
     let pairs = short.iter().zip(&long);
     pairs.map(|(short, long)| (long - short) / added).collect()

@@ -1,17 +1,8 @@
-//! What is timed.
+//! The logs that the library is meant for, and each rule by itself.
 
+use crate::scenario::{checked, filled, unchanged, Scenario};
 use tables::limits::{COEFFICIENT, DURATION, LOG_WORDS, VALUE};
-use tables::{at_least, at_most, log_words, model_words, not_equal, Atom, Fact, Model, Row, Step};
-
-pub struct Scenario {
-    pub name: String,
-    pub old: Option<Vec<i32>>,
-    pub model: Vec<i32>,
-    pub log: Vec<i32>,
-    pub steps: usize,
-    /// The kind of answer that must come.
-    pub kind: u32,
-}
+use tables::{at_least, at_most, log_words, not_equal, Atom, Fact, Model, Row, Step};
 
 pub fn all() -> Vec<Scenario> {
     let (model, steps) = generator::long_log(1);
@@ -35,48 +26,13 @@ pub fn all() -> Vec<Scenario> {
     ]
 }
 
-fn unchanged(scenario: &Scenario, name: &str) -> Scenario {
-    Scenario {
-        name: name.to_string(),
-        old: Some(scenario.model.clone()),
-        model: scenario.model.clone(),
-        log: scenario.log.clone(),
-        steps: scenario.steps,
-        kind: 2,
-    }
-}
-
-pub fn checked(name: &str, model: &Model, steps: &[Step]) -> Scenario {
-    Scenario {
-        name: name.to_string(),
-        old: None,
-        model: model_words(model),
-        log: log_words(steps),
-        steps: steps.len(),
-        kind: 1,
-    }
-}
-
-/// As many inferences with this fact as fit, or as many as are wanted, then a conclusion.
+/// As many inferences from the only row with these premises as fit, or as many as are wanted.
 fn repeated(name: &str, model: Model, premises: &[Atom], most: usize) -> Scenario {
-    let falsehood = Step::Inference {
-        row: model.rows.len(),
-        fact: Fact::default(),
-    };
     let step = Step::Inference {
         row: 0,
         fact: Fact::new(premises, None),
     };
-    let length = log_words(std::slice::from_ref(&step)).len();
-    let count = ((LOG_WORDS - 6) / length).min(most);
-    let mut steps = vec![step; count];
-    steps.push(falsehood);
-    steps.push(Step::NoAssignment { cited: count });
-    let mut model = model;
-    // a row that is false by itself, for the conclusion
-    let (low, _) = model.bounds[0];
-    model.rows.push(Row::linear(low - 1, &[(1, 0)]));
-    checked(name, &model, &steps)
+    filled(name, model, &[], step, most)
 }
 
 /// 16 terms of both signs over all values.
