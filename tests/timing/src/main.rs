@@ -11,6 +11,7 @@ mod measure;
 mod one;
 mod report;
 mod scenario;
+mod search;
 mod steps;
 mod subjects;
 
@@ -19,6 +20,7 @@ fn main() {
     let words: Vec<&str> = arguments.iter().map(String::as_str).collect();
     match words[..] {
         [] => report::print(),
+        ["search", seconds, seed] => search::run(number(seconds), number(seed)),
         ["one", name, subject, calls] => one::run(name, subject, number(calls)),
         _ => panic!("no arguments, or: search SECONDS SEED, or: one NAME SUBJECT CALLS"),
     }

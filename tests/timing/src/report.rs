@@ -109,6 +109,6 @@ impl Worst {
     }
 }
 
-fn micros(seconds: f64) -> String {
+pub fn micros(seconds: f64) -> String {
     format!("{:.1} us", seconds * 1e6)
 }
