@@ -82,12 +82,15 @@ impl Domains {
         self.touched |= 1 << variable;
         let (low, high) = self.ends[variable];
         match relation {
-            1 => self.set_ends(variable, low, high.min(value)),
-            2 => self.set_ends(variable, low.max(value), high),
-            3 if self.has(variable, value) => self.set_ends(variable, value, value),
+            1 => value >= high || self.lower(variable, value),
+            2 => value <= low || self.raise(variable, value),
+            3 if self.has(variable, value) => {
+                self.ends[variable] = (value, value);
+                true
+            }
             3 => false,
-            _ if value == low => self.set_ends(variable, low + 1, high),
-            _ if value == high => self.set_ends(variable, low, high - 1),
+            _ if value == low => self.raise(variable, low + 1),
+            _ if value == high => self.lower(variable, high - 1),
             _ => {
                 self.add_hole(variable, value);
                 true
@@ -95,17 +98,27 @@ impl Domains {
         }
     }
 
-    /// Moves the ends past holes; false if nothing is left.
-    fn set_ends(&mut self, variable: usize, mut low: i32, mut high: i32) -> bool {
+    /// Moves the low end up, past holes; false if nothing is left.
+    fn raise(&mut self, variable: usize, mut low: i32) -> bool {
+        let high = self.high(variable);
         if self.has_holes(variable) {
-            while low <= high && self.is_hole(variable, low) {
+            while low < high && self.is_hole(variable, low) {
                 low += 1;
             }
-            while low <= high && self.is_hole(variable, high) {
+        }
+        self.ends[variable].0 = low;
+        low <= high
+    }
+
+    /// Moves the high end down, past holes; false if nothing is left.
+    fn lower(&mut self, variable: usize, mut high: i32) -> bool {
+        let low = self.low(variable);
+        if self.has_holes(variable) {
+            while low < high && self.is_hole(variable, high) {
                 high -= 1;
             }
         }
-        self.ends[variable] = (low, high);
+        self.ends[variable].1 = high;
         low <= high
     }
 
