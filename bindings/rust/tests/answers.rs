@@ -1,98 +1,119 @@
 //! The safe functions say what the library says.
 
-use dimpsyholt::{check, recheck, Cause, Conclusion, Refusal, Verdict, PLACES};
+use dimpsyholt::{check, version, Cause, Conclusion, Held, Shut, PLACES, VERSION};
 
 const MODEL: [i32; 13] = [3, 1, 2, 1, 2, 1, 2, 1, 2, 3, 0, 1, 2];
 const LOG: [i32; 20] = [1, 0, 3, 0, 2, 1, 1, 2, 1, 2, 2, 1, 0, 2, 0, 0, 1, 0, 3, 1];
 
-fn checked(model: &[i32], log: &[i32]) -> (Verdict, Vec<u32>) {
+/// The verdict as it is printed, and the places.
+fn checked(model: &[i32], log: &[i32]) -> (String, Vec<u32>) {
     let mut places = vec![77; PLACES];
-    let verdict = check(model, log, &mut places);
+    let verdict = match check(model, log, &mut places) {
+        Ok(accepted) => accepted.to_string(),
+        Err(shut) => shut.to_string(),
+    };
     (verdict, places)
 }
 
 #[test]
+fn the_library_is_of_this_version() {
+    assert_eq!(version(), VERSION);
+}
+
+#[test]
 fn the_whole_example_is_accepted() {
-    let (verdict, places) = checked(&MODEL, &LOG);
-    assert_eq!(verdict, Verdict::Accepted(Conclusion::NoAssignment));
-    assert_eq!(verdict.accepted(), Some(Conclusion::NoAssignment));
+    let mut places = vec![77; PLACES];
+    let accepted = check(&MODEL, &LOG, &mut places).unwrap();
+    assert_eq!(accepted.conclusion(), Conclusion::NoAssignment);
+    assert_eq!((accepted.model(), accepted.log()), (&MODEL[..], &LOG[..]));
     assert_eq!(places[..4], [0, 13, 18, 77]);
     assert_eq!(
-        verdict.to_string(),
-        "accepted: no assignment satisfies the model"
+        accepted.to_string(),
+        "accepted: no assignment meets every row"
     );
 }
 
 #[test]
 fn an_empty_log_is_refused() {
-    let (verdict, places) = checked(&MODEL, &[]);
-    let refusal = Refusal {
-        cause: Cause::NoConclusion,
-        step: 0,
-        position: 0,
+    let mut places = vec![77; PLACES];
+    let Err(Shut::Refused(refusal)) = check(&MODEL, &[], &mut places) else {
+        panic!("not refused");
     };
-    assert_eq!(verdict, Verdict::Refused(refusal));
-    assert_eq!(verdict.accepted(), None);
-    assert!(places.iter().all(|&place| place == 77));
     assert_eq!(
-        verdict.to_string(),
-        "refused with 10 at step 0, log word 0: the log ends without a conclusion"
+        (refusal.cause, refusal.step, refusal.position),
+        (Cause::NoConclusion, 0, 0)
     );
+    assert!(places.iter().all(|&place| place == 77));
 }
 
 #[test]
 fn a_bound_is_named() {
     let model = [1, 0, 10, 1, 1, 1, -3, -1, 0];
-    let (verdict, _) = checked(&model, &[1, 0, 0, 1, 0, 2, 3, 4, 0, 2, 0]);
-    assert_eq!(verdict.to_string(), "accepted: variable 0 is never below 2");
-    let (verdict, _) = checked(&model, &[1, 0, 0, 1, 0, 2, 3, 4, 0, 4, 0]);
+    let claim = |value| checked(&model, &[1, 0, 0, 1, 0, 2, 3, 4, 0, value, 0]).0;
+    assert_eq!(claim(2), "accepted: variable 0 is never below 2");
     assert_eq!(
-        verdict.to_string(),
-        "refused with 24 at step 1: the cited fact does not say what is concluded"
+        claim(4),
+        "refused 24 at step 1: the fact does not fit the conclusion"
     );
 }
 
 #[test]
-fn a_bad_model_is_located() {
+fn refusals_say_where_to_look() {
     let (verdict, _) = checked(&MODEL[..12], &LOG);
+    assert_eq!(verdict, "refused 4 at model word 12: the model ends early");
+    let (verdict, places) = checked(&MODEL, &LOG[..19]);
     assert_eq!(
-        verdict.to_string(),
-        "refused with 4 at model word 12: the model ends before it is complete"
+        verdict,
+        "refused 11 at step 2, log word 19: the log ends inside a step"
     );
-}
-
-#[test]
-fn a_hint_is_located() {
-    let model = [1, 0, 5, 1, 1, 1, 0, 1, 0];
-    let log = [1, 0, 1, 0, 2, 1, 0, 2, 0, 0, 1, 0];
-    let (verdict, _) = checked(&model, &log);
+    assert_eq!(places[..3], [0, 13, 77]);
+    let (verdict, _) = checked(
+        &[1, 0, 5, 1, 1, 1, 0, 1, 0],
+        &[1, 0, 1, 0, 2, 1, 0, 2, 0, 0, 1, 0],
+    );
     assert_eq!(
-        verdict.to_string(),
-        "refused with 22 at step 1, hint 0: a premise of the hinted fact does not hold"
+        verdict,
+        "refused 22 at step 1, hint 0: a hint does not apply"
     );
 }
 
 #[test]
 fn few_places_are_refused() {
-    let verdict = check(&MODEL, &LOG, &mut [0; 3]);
+    let shut = check(&MODEL, &LOG, &mut [0; 3]).unwrap_err();
     assert_eq!(
-        verdict.to_string(),
-        "refused with 3: fewer than 4,096 places were lent"
+        shut.to_string(),
+        "refused 3: fewer than 4,096 places were lent"
     );
 }
 
 #[test]
 fn rechecks_are_told_apart() {
     let mut places = vec![0; PLACES];
-    let carried = recheck(&MODEL, &MODEL, &LOG, &mut places);
-    assert_eq!(carried.verdict, Verdict::Carried(Conclusion::NoAssignment));
-    assert_eq!(carried.verdict.accepted(), None);
+    let accepted = check(&MODEL, &LOG, &mut places).unwrap();
+
+    let same = accepted.recheck(&MODEL, &mut places);
+    let Ok(Held::Carried(carried)) = same.verdict else {
+        panic!("{same:?}");
+    };
     assert_eq!(
-        carried.to_string(),
-        "carried from the earlier acceptance: no assignment satisfies the model \
-         (rows changed: 0, steps judged: 0)"
+        (carried.conclusion(), carried.model()),
+        (Conclusion::NoAssignment, &MODEL[..])
     );
-    let whole = recheck(&[], &MODEL, &LOG, &mut places);
-    assert_eq!(whole.verdict, Verdict::Accepted(Conclusion::NoAssignment));
-    assert_eq!((whole.changed, whole.judged), (1, 3));
+    assert_eq!((same.changed, same.judged), (0, 0));
+
+    let one_more_row = [3, 1, 2, 1, 2, 1, 2, 2, 2, 3, 0, 1, 2, 2, 2, 0, 1];
+    let whole = accepted.recheck(&one_more_row, &mut places);
+    let Ok(Held::Accepted(again)) = whole.verdict else {
+        panic!("{whole:?}");
+    };
+    assert_eq!((again.model(), again.log()), (&one_more_row[..], &LOG[..]));
+    assert_eq!((whole.changed, whole.judged), (2, 3));
+
+    let fewer = [3, 1, 2, 1, 2, 1, 2, 1, 2, 2, 0, 1];
+    let refused = accepted.recheck(&fewer, &mut places);
+    assert_eq!(
+        refused.verdict.unwrap_err().to_string(),
+        "refused 21 at step 0: the row does not conflict"
+    );
+    assert_eq!((refused.changed, refused.judged), (1, 1));
 }

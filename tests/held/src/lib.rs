@@ -11,5 +11,5 @@ pub use assignments::{counterexample, satisfies, Search};
 pub use compare::{answers_alike, lent};
 pub use differences::Differences;
 pub use guard::{Edge, Guarded, Vast};
-pub use library::{answer, LIBRARY};
+pub use library::{answer, version, LIBRARY};
 pub use tally::Tally;

@@ -9,6 +9,11 @@ pub const LIBRARY: &str = if cfg!(feature = "linked") {
     "the fast version in place of the archive"
 };
 
+/// The version that the linked archive gives itself; none where no archive is linked.
+pub fn version() -> Option<u32> {
+    backend::version()
+}
+
 /// A check, or a recheck where there is an old model.
 pub fn answer(old: Option<&[i32]>, model: &[i32], log: &[i32], places: &mut [u32]) -> Answer {
     match old {
@@ -20,12 +25,20 @@ pub fn answer(old: Option<&[i32]>, model: &[i32], log: &[i32], places: &mut [u32
 #[cfg(not(feature = "linked"))]
 mod backend {
     pub use fast::{check, recheck};
+
+    pub fn version() -> Option<u32> {
+        None
+    }
 }
 
 #[cfg(feature = "linked")]
 mod backend {
     use dimpsyholt::raw;
     use tables::Answer;
+
+    pub fn version() -> Option<u32> {
+        Some(raw::version())
+    }
 
     pub fn check(model: &[i32], log: &[i32], places: &mut [u32]) -> Answer {
         same(raw::check(model, log, places))
