@@ -33,20 +33,9 @@ The first line is the verdict. Exit status: 0 accepted, 1 refused, 2 bad files o
 /// What is asked for.
 #[derive(Debug, PartialEq, Eq)]
 pub enum Task {
-    Check {
-        model: Source,
-        log: Source,
-        places: Option<PathBuf>,
-    },
-    Recheck {
-        old: Source,
-        new: Source,
-        log: Source,
-    },
-    Explain {
-        model: Source,
-        log: Source,
-    },
+    Check { model: Source, log: Source, places: Option<PathBuf> },
+    Recheck { old: Source, new: Source, log: Source },
+    Explain { model: Source, log: Source },
     Help,
     Version,
 }
@@ -107,9 +96,7 @@ impl<'a> Words<'a> {
 
     fn places(&mut self, file: Option<&OsString>) -> Result<(), Failure> {
         match file {
-            Some(file) if file == "-" => Err(Failure::usage(
-                "--places needs a file, standard output has the verdict",
-            )),
+            Some(file) if file == "-" => Err(Failure::usage("--places needs a file, standard output has the verdict")),
             Some(_) if self.places.is_some() => Err(Failure::usage("--places is given twice")),
             Some(file) => {
                 self.places = Some(PathBuf::from(file));
@@ -132,20 +119,9 @@ fn files(name: &str, words: Words) -> Result<Task, Failure> {
     }
     let source = |at: usize| Source::named(words.plain[at]);
     match (name, words.plain.len()) {
-        ("check", 2) => Ok(Task::Check {
-            model: source(0),
-            log: source(1),
-            places: words.places,
-        }),
-        ("explain", 2) => Ok(Task::Explain {
-            model: source(0),
-            log: source(1),
-        }),
-        ("recheck", 3) => Ok(Task::Recheck {
-            old: source(0),
-            new: source(1),
-            log: source(2),
-        }),
+        ("check", 2) => Ok(Task::Check { model: source(0), log: source(1), places: words.places }),
+        ("explain", 2) => Ok(Task::Explain { model: source(0), log: source(1) }),
+        ("recheck", 3) => Ok(Task::Recheck { old: source(0), new: source(1), log: source(2) }),
         ("recheck", _) => Err(Failure::usage("recheck needs three files: OLD NEW LOG")),
         _ => Err(Failure::usage(format!("{name} needs two files: MODEL LOG"))),
     }

@@ -13,12 +13,7 @@ use std::path::Path;
 /// An entry that no step writes: a log has fewer words.
 const LENT: u32 = u32::MAX;
 
-pub fn check(
-    model: &Source,
-    log: &Source,
-    places: Option<&Path>,
-    stdin: &mut dyn Read,
-) -> Result<Report, Failure> {
+pub fn check(model: &Source, log: &Source, places: Option<&Path>, stdin: &mut dyn Read) -> Result<Report, Failure> {
     if let Some(file) = places {
         not_an_input(file, &[model, log])?;
     }
@@ -39,12 +34,7 @@ pub fn explained(model: &Source, log: &Source, stdin: &mut dyn Read) -> Result<R
 }
 
 /// Only a log that OLD accepts is rechecked; any other gets the whole check against NEW.
-pub fn recheck(
-    old: &Source,
-    new: &Source,
-    log: &Source,
-    stdin: &mut dyn Read,
-) -> Result<Report, Failure> {
+pub fn recheck(old: &Source, new: &Source, log: &Source, stdin: &mut dyn Read) -> Result<Report, Failure> {
     let (old, new, log) = (old.table(stdin)?, new.table(stdin)?, log.table(stdin)?);
     match dimpsyholt::check(&old, &log, &mut lent()) {
         Ok(accepted) => {
@@ -60,10 +50,8 @@ pub fn recheck(
         Err(shut) => {
             let earlier = refused(shut)?.line;
             let mut report = checked(&new, &log, &mut lent())?;
-            report.line = format!(
-                "{}; checked whole, as the old model did not accept this log: {earlier}",
-                report.line
-            );
+            report.line =
+                format!("{}; checked whole, as the old model did not accept this log: {earlier}", report.line);
             report.old = Some(earlier);
             Ok(report)
         }
@@ -85,10 +73,7 @@ fn checked(model: &[i32], log: &[i32], places: &mut [u32]) -> Result<Report, Fai
 fn refused(shut: Shut) -> Result<Report, Failure> {
     match shut {
         Shut::Refused(refusal) => Ok(Report::refused(refusal)),
-        Shut::Unknown(unknown) => Err(Failure {
-            message: unknown.to_string(),
-            ..Failure::default()
-        }),
+        Shut::Unknown(unknown) => Err(Failure { message: unknown.to_string(), ..Failure::default() }),
     }
 }
 
@@ -100,10 +85,7 @@ fn not_an_input(file: &Path, inputs: &[&Source]) -> Result<(), Failure> {
     for input in inputs {
         if let Source::File(path) = input {
             if fs::canonicalize(path).is_ok_and(|path| path == places) {
-                return Err(Failure::usage(format!(
-                    "--places would overwrite {}",
-                    path.display()
-                )));
+                return Err(Failure::usage(format!("--places would overwrite {}", path.display())));
             }
         }
     }

@@ -13,18 +13,11 @@ pub struct Failure {
 
 impl Failure {
     pub fn usage(message: impl Into<String>) -> Failure {
-        Failure {
-            message: format!("{}; see dimpsyholt --help", message.into()),
-            ..Failure::default()
-        }
+        Failure { message: format!("{}; see dimpsyholt --help", message.into()), ..Failure::default() }
     }
 
     pub fn of_file(file: String, message: impl fmt::Display) -> Failure {
-        Failure {
-            message: message.to_string(),
-            file: Some(file),
-            place: None,
-        }
+        Failure { message: message.to_string(), file: Some(file), place: None }
     }
 }
 

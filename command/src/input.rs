@@ -33,9 +33,7 @@ impl Source {
 
     /// The words of the table, or why it is none.
     pub fn table(&self, stdin: &mut dyn Read) -> Result<Vec<i32>, Failure> {
-        let bytes = self
-            .bytes(stdin)
-            .map_err(|error| Failure::of_file(self.name(), error))?;
+        let bytes = self.bytes(stdin).map_err(|error| Failure::of_file(self.name(), error))?;
         if bytes.len() as u64 > LARGEST {
             return Err(Failure::of_file(self.name(), "this is larger than 16 MiB"));
         }
@@ -49,9 +47,7 @@ impl Source {
         let mut bytes = Vec::new();
         match self {
             Source::StandardInput => stdin.take(LARGEST + 1).read_to_end(&mut bytes)?,
-            Source::File(path) => File::open(path)?
-                .take(LARGEST + 1)
-                .read_to_end(&mut bytes)?,
+            Source::File(path) => File::open(path)?.take(LARGEST + 1).read_to_end(&mut bytes)?,
         };
         Ok(bytes)
     }

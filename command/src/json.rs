@@ -18,10 +18,7 @@ pub fn report(report: &Report) -> String {
         ("conclusion", number(conclusion)),
         ("variable", number(variable)),
         ("value", number(value)),
-        (
-            "number",
-            number(refusal.map(|refusal| refusal.cause.number())),
-        ),
+        ("number", number(refusal.map(|refusal| refusal.cause.number()))),
         ("step", number(refusal.map(|refusal| refusal.step))),
         ("position", number(refusal.map(|refusal| refusal.position))),
         ("changed", number(report.counts.map(|(changed, _)| changed))),
@@ -39,17 +36,7 @@ pub fn failure(failure: &Failure) -> String {
         ("exit", number(Some(Status::Failed.number()))),
         ("text", string(&failure.message)),
     ];
-    let unknown = [
-        "conclusion",
-        "variable",
-        "value",
-        "number",
-        "step",
-        "position",
-        "changed",
-        "judged",
-        "old",
-    ];
+    let unknown = ["conclusion", "variable", "value", "number", "step", "position", "changed", "judged", "old"];
     pairs.extend(unknown.map(|key| (key, optional(None))));
     pairs.push(("file", optional(failure.file.as_deref())));
     pairs.push(("line", number(failure.place.map(|(line, _)| line))));
@@ -58,10 +45,7 @@ pub fn failure(failure: &Failure) -> String {
 }
 
 fn line(pairs: &[(&str, String)]) -> String {
-    let members: Vec<String> = pairs
-        .iter()
-        .map(|(key, value)| format!("\"{key}\":{value}"))
-        .collect();
+    let members: Vec<String> = pairs.iter().map(|(key, value)| format!("\"{key}\":{value}")).collect();
     format!("{{{}}}\n", members.join(","))
 }
 

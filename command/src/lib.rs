@@ -23,12 +23,7 @@ use std::ffi::OsString;
 use std::io::{Read, Write};
 
 /// Runs the command: reads what the arguments name, says the verdict, and gives the exit status.
-pub fn run(
-    arguments: &[OsString],
-    stdin: &mut dyn Read,
-    stdout: &mut dyn Write,
-    stderr: &mut dyn Write,
-) -> Status {
+pub fn run(arguments: &[OsString], stdin: &mut dyn Read, stdout: &mut dyn Write, stderr: &mut dyn Write) -> Status {
     let request = Request::read(arguments);
     let json = match &request {
         Ok(request) => request.json,
@@ -46,10 +41,7 @@ pub fn run(
             (Status::Failed, String::new())
         }
     };
-    match stdout
-        .write_all(out.as_bytes())
-        .and_then(|()| stdout.flush())
-    {
+    match stdout.write_all(out.as_bytes()).and_then(|()| stdout.flush()) {
         Ok(()) => status,
         // a verdict that nobody could read is none
         Err(error) => {
@@ -68,9 +60,7 @@ fn answer(task: Task, stdin: &mut dyn Read) -> Result<Answer, Failure> {
     Ok(match task {
         Task::Help => Answer::Page(arguments::HELP.to_string()),
         Task::Version => Answer::Page(report::version()),
-        Task::Check { model, log, places } => {
-            Answer::Report(ask::check(&model, &log, places.as_deref(), stdin)?)
-        }
+        Task::Check { model, log, places } => Answer::Report(ask::check(&model, &log, places.as_deref(), stdin)?),
         Task::Recheck { old, new, log } => Answer::Report(ask::recheck(&old, &new, &log, stdin)?),
         Task::Explain { model, log } => Answer::Report(ask::explained(&model, &log, stdin)?),
     })

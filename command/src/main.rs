@@ -5,11 +5,6 @@ use std::process::ExitCode;
 
 fn main() -> ExitCode {
     let arguments: Vec<_> = std::env::args_os().skip(1).collect();
-    let status = command::run(
-        &arguments,
-        &mut stdin().lock(),
-        &mut stdout().lock(),
-        &mut stderr().lock(),
-    );
+    let status = command::run(&arguments, &mut stdin().lock(), &mut stdout().lock(), &mut stderr().lock());
     ExitCode::from(status.number())
 }

@@ -45,54 +45,30 @@ pub struct Report {
 
 impl Report {
     fn new(status: Status, line: String) -> Report {
-        Report {
-            status,
-            line,
-            more: String::new(),
-            conclusion: None,
-            refusal: None,
-            counts: None,
-            old: None,
-        }
+        Report { status, line, more: String::new(), conclusion: None, refusal: None, counts: None, old: None }
     }
 
     pub fn accepted(accepted: &Accepted) -> Report {
-        Report {
-            conclusion: Some(accepted.conclusion()),
-            ..Report::new(Status::Accepted, accepted.to_string())
-        }
+        Report { conclusion: Some(accepted.conclusion()), ..Report::new(Status::Accepted, accepted.to_string()) }
     }
 
     pub fn held(held: &Held) -> Report {
         match held {
             Held::Accepted(accepted) => Report::accepted(accepted),
-            Held::Carried(carried) => Report {
-                conclusion: Some(carried.conclusion()),
-                ..Report::new(Status::Carried, carried.to_string())
-            },
+            Held::Carried(carried) => {
+                Report { conclusion: Some(carried.conclusion()), ..Report::new(Status::Carried, carried.to_string()) }
+            }
         }
     }
 
     pub fn refused(refusal: Refusal) -> Report {
-        Report {
-            refusal: Some(refusal),
-            ..Report::new(Status::Refused, refusal.to_string())
-        }
+        Report { refusal: Some(refusal), ..Report::new(Status::Refused, refusal.to_string()) }
     }
 }
 
 /// What `--version` prints.
 pub fn version() -> String {
-    let [command, library] = [dimpsyholt::VERSION, dimpsyholt::version()].map(|version| {
-        format!(
-            "{}.{}.{}",
-            version / 10_000,
-            version / 100 % 100,
-            version % 100
-        )
-    });
-    format!(
-        "dimpsyholt {command}, library {library}, table format {}\n",
-        dimpsyholt::FORMAT
-    )
+    let [command, library] = [dimpsyholt::VERSION, dimpsyholt::version()]
+        .map(|version| format!("{}.{}.{}", version / 10_000, version / 100 % 100, version % 100));
+    format!("dimpsyholt {command}, library {library}, table format {}\n", dimpsyholt::FORMAT)
 }

@@ -41,19 +41,11 @@ struct Scanner<'a> {
 
 impl<'a> Scanner<'a> {
     fn new(text: &'a str) -> Scanner<'a> {
-        Scanner {
-            rest: text.chars().peekable(),
-            line: 1,
-            column: 1,
-        }
+        Scanner { rest: text.chars().peekable(), line: 1, column: 1 }
     }
 
     fn fault(&self, what: impl Into<String>) -> Fault {
-        Fault {
-            line: self.line,
-            column: self.column,
-            what: what.into(),
-        }
+        Fault { line: self.line, column: self.column, what: what.into() }
     }
 
     fn words(&mut self) -> Result<Vec<i32>, Fault> {
@@ -150,88 +142,34 @@ mod tests {
     fn words_and_nothing_else() {
         assert_eq!(words(b""), Ok(vec![]));
         assert_eq!(words(b"# only a comment"), Ok(vec![]));
-        assert_eq!(
-            words(b" 1\t-2\r\n003#x\n-0 2147483647 -2147483648"),
-            Ok(vec![1, -2, 3, 0, i32::MAX, i32::MIN])
-        );
+        assert_eq!(words(b" 1\t-2\r\n003#x\n-0 2147483647 -2147483648"), Ok(vec![1, -2, 3, 0, i32::MAX, i32::MIN]));
         assert_eq!(words("1 # Zug fährt ab\r\n2".as_bytes()), Ok(vec![1, 2]));
     }
 
     #[test]
     fn the_first_fault_has_its_place() {
-        assert_eq!(
-            fault(b"1 +2"),
-            (1, 3, "'+' is no part of a word".to_string())
-        );
-        assert_eq!(
-            fault(b"1\n 2x"),
-            (2, 3, "'x' is no part of a word".to_string())
-        );
-        assert_eq!(
-            fault(b"1-2"),
-            (1, 2, "'-' is no part of a word".to_string())
-        );
-        assert_eq!(
-            fault(b"--2"),
-            (1, 2, "'-' is no part of a word".to_string())
-        );
-        assert_eq!(
-            fault(b"1, 2"),
-            (1, 2, "',' is no part of a word".to_string())
-        );
-        assert_eq!(
-            fault(b"\n\n-"),
-            (3, 1, "a minus without digits".to_string())
-        );
+        assert_eq!(fault(b"1 +2"), (1, 3, "'+' is no part of a word".to_string()));
+        assert_eq!(fault(b"1\n 2x"), (2, 3, "'x' is no part of a word".to_string()));
+        assert_eq!(fault(b"1-2"), (1, 2, "'-' is no part of a word".to_string()));
+        assert_eq!(fault(b"--2"), (1, 2, "'-' is no part of a word".to_string()));
+        assert_eq!(fault(b"1, 2"), (1, 2, "',' is no part of a word".to_string()));
+        assert_eq!(fault(b"\n\n-"), (3, 1, "a minus without digits".to_string()));
         assert_eq!(fault(b"- 1"), (1, 1, "a minus without digits".to_string()));
-        assert_eq!(
-            fault(b"5 2147483648"),
-            (1, 3, "2147483648 is no signed 32-bit number".to_string())
-        );
-        assert_eq!(
-            fault(b"-2147483649"),
-            (1, 1, "-2147483649 is no signed 32-bit number".to_string())
-        );
-        assert_eq!(
-            fault(b"1 \0"),
-            (1, 3, "U+0000 is no part of a word".to_string())
-        );
+        assert_eq!(fault(b"5 2147483648"), (1, 3, "2147483648 is no signed 32-bit number".to_string()));
+        assert_eq!(fault(b"-2147483649"), (1, 1, "-2147483649 is no signed 32-bit number".to_string()));
+        assert_eq!(fault(b"1 \0"), (1, 3, "U+0000 is no part of a word".to_string()));
         assert_eq!(fault(b"#\0"), (1, 2, "U+0000 in a comment".to_string()));
-        assert_eq!(
-            fault(b"1\r2"),
-            (1, 2, "a carriage return without a line feed".to_string())
-        );
-        assert_eq!(
-            fault(b"# a\r2"),
-            (1, 4, "a carriage return without a line feed".to_string())
-        );
-        assert_eq!(
-            fault(b"1\x0c2"),
-            (1, 2, "U+000C is no part of a word".to_string())
-        );
-        assert_eq!(
-            fault("\u{feff}1".as_bytes()),
-            (1, 1, "U+FEFF is no part of a word".to_string())
-        );
-        assert_eq!(
-            fault("# \u{e4}\n\u{a0}".as_bytes()),
-            (2, 1, "U+00A0 is no part of a word".to_string())
-        );
+        assert_eq!(fault(b"1\r2"), (1, 2, "a carriage return without a line feed".to_string()));
+        assert_eq!(fault(b"# a\r2"), (1, 4, "a carriage return without a line feed".to_string()));
+        assert_eq!(fault(b"1\x0c2"), (1, 2, "U+000C is no part of a word".to_string()));
+        assert_eq!(fault("\u{feff}1".as_bytes()), (1, 1, "U+FEFF is no part of a word".to_string()));
+        assert_eq!(fault("# \u{e4}\n\u{a0}".as_bytes()), (2, 1, "U+00A0 is no part of a word".to_string()));
     }
 
     #[test]
     fn what_is_no_utf8_is_no_table() {
-        assert_eq!(
-            fault(b"1 2\n3 \xff"),
-            (2, 3, "this is not UTF-8".to_string())
-        );
-        assert_eq!(
-            fault(b"# \xc3\xa4\xff"),
-            (1, 4, "this is not UTF-8".to_string())
-        );
-        assert_eq!(
-            fault(b"a \xff"),
-            (1, 1, "'a' is no part of a word".to_string())
-        );
+        assert_eq!(fault(b"1 2\n3 \xff"), (2, 3, "this is not UTF-8".to_string()));
+        assert_eq!(fault(b"# \xc3\xa4\xff"), (1, 4, "this is not UTF-8".to_string()));
+        assert_eq!(fault(b"a \xff"), (1, 1, "'a' is no part of a word".to_string()));
     }
 }

@@ -4,7 +4,8 @@ mod person;
 
 use person::Folder;
 
-const SAYS_SO: &str = "The verdict above is the library's. What follows is worked out again for people to read; it decides nothing.";
+const SAYS_SO: &str =
+    "The verdict above is the library's. What follows is worked out again for people to read; it decides nothing.";
 /// x0 in 0..10, -x0 <= -3
 const AT_LEAST: &str = "1 0 10 1  1 1 -3 -1 0";
 
@@ -15,17 +16,10 @@ fn explained(name: &str, model: &str, log: &str, lines: &[&str]) {
     folder.write("log", log);
     let said = folder.run(&["explain", "model", "log"]);
     let checked = folder.run(&["check", "model", "log"]);
-    assert_eq!(
-        (said.status, said.verdict()),
-        (checked.status, checked.verdict())
-    );
+    assert_eq!((said.status, said.verdict()), (checked.status, checked.verdict()));
     assert_eq!(said.errors, "");
     for line in [SAYS_SO].iter().chain(lines) {
-        assert!(
-            said.out.lines().any(|told| told.trim() == *line),
-            "no line {line:?} in\n{}",
-            said.out
-        );
+        assert!(said.out.lines().any(|told| told.trim() == *line), "no line {line:?} in\n{}", said.out);
     }
 }
 
@@ -38,7 +32,7 @@ fn an_acceptance() {
         log,
         &[
             "accepted: no assignment meets every row",
-            "The model: 3 variables and 1 row.",
+            "The model: 3 variables, x0 to x2, and 1 row.",
             "x0 to x2 are each in 1..2",
             "row 0, all-different of 3 variables: no two of x0, x1, x2 are equal",
             "Shown: no assignment within the bounds meets every row.",
@@ -55,18 +49,8 @@ fn an_acceptance() {
 
 #[test]
 fn sizes() {
-    explained(
-        "model-size",
-        &"0 ".repeat(5_000),
-        "",
-        &["The model has 5000 words; at most 4096 are read."],
-    );
-    explained(
-        "log-size",
-        AT_LEAST,
-        &"0 ".repeat(20_000),
-        &["The log has 20000 words; at most 16384 are read."],
-    );
+    explained("model-size", &"0 ".repeat(5_000), "", &["The model has 5000 words; at most 4096 are read."]);
+    explained("log-size", AT_LEAST, &"0 ".repeat(20_000), &["The log has 20000 words; at most 16384 are read."]);
 }
 
 #[test]
@@ -117,17 +101,17 @@ fn a_word_of_the_model() {
 
 #[test]
 fn a_word_of_the_log() {
+    explained("no-log", AT_LEAST, "", &["The log is empty.", "No step has passed."]);
     explained(
-        "no-log",
+        "no-conclusion",
         AT_LEAST,
-        "",
-        &["The log is empty.", "No step has passed."],
+        "1 0 0 1 0 2 3",
+        &[
+            "Step 0 has passed.",
+            "The log ends between steps: none of kind 3 or 4 stands at its end.",
+            "Expected there: the kind of step 1: 1 inference, 2 deduction, 3 or 4 conclusion; from 1 to 4.",
+        ],
     );
-    explained("no-conclusion", AT_LEAST, "1 0 0 1 0 2 3", &[
-        "Step 0 has passed.",
-        "The log ends between steps: none of kind 3 or 4 stands at its end.",
-        "Expected there: the kind of step 1: 1 inference, 2 deduction, 3 or 4 conclusion; from 1 to 4.",
-    ]);
     explained(
         "inside",
         AT_LEAST,
@@ -147,20 +131,12 @@ fn a_word_of_the_log() {
             "Expected there: hint 0 of step 1, the number of an earlier fact; it can only be 0.",
         ],
     );
-    explained(
-        "no-rows",
-        "1 0 1 0",
-        "1 0 0 0",
-        &["Expected there: the row of step 0; there is no such number here."],
-    );
+    explained("no-rows", "1 0 1 0", "1 0 0 0", &["Expected there: the row of step 0; there is no such number here."]);
     explained(
         "after",
         AT_LEAST,
         "1 0 0 1 0 2 3 4 0 3 0 9 9",
-        &[
-            "Step 1 concludes; the log should end with it.",
-            "The log is complete before word 11, and has 13 words.",
-        ],
+        &["Step 1 concludes; the log should end with it.", "The log is complete before word 11, and has 13 words."],
     );
 }
 
@@ -182,15 +158,20 @@ fn an_empty_box() {
 
 #[test]
 fn a_linear_row() {
-    explained("linear", "2 0 10 0 10 1 1 2 7 2 0 -3 1", "1 0 2 0 2 1 1 4 10 0", &[
-        "row 0, linear of 2 terms: 2*x0 - 3*x1 is at most 7",
-        "step 0, from row 0, linear of 2 terms: if x0 is at least 1 and x1 is not 10, then false",
-        "x0: 1..10",
-        "x1: 0..9",
-        "2*x0: 2 times 1, the smallest value left, is 2",
-        "-3*x1: -3 times 9, the largest value left, is -27",
-        "least sum -25, bound 7: a conflict needs at least 8",
-    ]);
+    explained(
+        "linear",
+        "2 0 10 0 10 1 1 2 7 2 0 -3 1",
+        "1 0 2 0 2 1 1 4 10 0",
+        &[
+            "row 0, linear of 2 terms: 2*x0 - 3*x1 is at most 7",
+            "step 0, from row 0, linear of 2 terms: if x0 is at least 1 and x1 is not 10, then false",
+            "x0: 1..10",
+            "x1: 0..9",
+            "2*x0: 2 times 1, the smallest value left, is 2",
+            "-3*x1: -3 times 9, the largest value left, is -27",
+            "least sum -25, bound 7: a conflict needs at least 8",
+        ],
+    );
 }
 
 #[test]
@@ -259,28 +240,35 @@ fn a_hint() {
             "its premise \"x0 is at most 2\" does not hold for every value left: x0 has 3..7",
         ],
     );
-    explained("hints", AT_LEAST, &format!("{facts} 2 1 0 1 9 1 0 2 8 1 0"), &[
-        "step 2, deduced from fact 0: if x0 is at most 9, then x0 is at least 8",
-        "Why: no hint says \"false\", and no variable is without a value. What is left after all hints:",
-        "x0: 3..7",
-    ]);
+    explained(
+        "hints",
+        AT_LEAST,
+        &format!("{facts} 2 1 0 1 9 1 0 2 8 1 0"),
+        &[
+            "step 2, deduced from fact 0: if x0 is at most 9, then x0 is at least 8",
+            "Why: no hint says \"false\", and no variable is without a value. What is left after all hints:",
+            "x0: 3..7",
+        ],
+    );
 }
 
 #[test]
 fn a_conclusion() {
-    explained("claim", AT_LEAST, "1 0 0 1 0 2 3 4 0 4 0", &[
-        "step 1, concluded from fact 0: x0 is never below 4",
-        "fact 0 says: always x0 is at least 3",
-        "the conclusion needs a fact without premises: always x0 is at least 4 or a larger value",
-        "what does not fit: its consequent is \"x0 is at least 3\"",
-    ]);
+    explained(
+        "claim",
+        AT_LEAST,
+        "1 0 0 1 0 2 3 4 0 4 0",
+        &[
+            "step 1, concluded from fact 0: x0 is never below 4",
+            "fact 0 says: always x0 is at least 3",
+            "the conclusion needs a fact without premises: always x0 is at least 4 or a larger value",
+            "what does not fit: its consequent is \"x0 is at least 3\"",
+        ],
+    );
     explained(
         "false",
         AT_LEAST,
         "1 0 1 0 1 2 0 3 0",
-        &[
-            "the conclusion needs a fact without premises: always false",
-            "what does not fit: it has 1 premise",
-        ],
+        &["the conclusion needs a fact without premises: always false", "what does not fit: it has 1 premise"],
     );
 }

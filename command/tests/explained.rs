@@ -18,10 +18,7 @@ fn refusal(model: &[i32], log: &[i32]) -> Option<Refusal> {
 fn explained(model: &[i32], log: &[i32]) -> u32 {
     let refusal = refusal(model, log);
     let page = explain(model, log, refusal);
-    assert!(
-        page.contains("The verdict above is the library's."),
-        "{page}"
-    );
+    assert!(page.contains("The verdict above is the library's."), "{page}");
     assert!(!page.contains(DISAGREES), "{page}\n{model:?}\n{log:?}");
     refusal.map_or(0, |refusal| refusal.cause.number())
 }
@@ -46,10 +43,7 @@ fn generated_tables_are_explained() {
         let count = tally.get(&number).copied().unwrap_or_default();
         assert!(count >= 100, "{number}: {count}");
     }
-    println!(
-        "{} generated cases explained",
-        tally.values().sum::<usize>()
-    );
+    println!("{} generated cases explained", tally.values().sum::<usize>());
 }
 
 /// The explanation of one refusal is asked of the tables of another: it may be lost, it may not break.

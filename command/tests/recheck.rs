@@ -32,24 +32,15 @@ fn a_log_that_was_accepted_is_carried() {
     let folder = Folder::new("carried");
     let carried = told(3, "carried: variable 0 is never below 3");
     assert_eq!(recheck(&folder, OLD, OLD, LOG), carried);
-    assert_eq!(
-        recheck(&folder, OLD, &OLD.replace("-3", "-5"), LOG),
-        carried
-    );
-    assert_eq!(
-        recheck(&folder, OLD, &OLD.replace("9 1 0", "8 1 0"), LOG),
-        carried
-    );
+    assert_eq!(recheck(&folder, OLD, &OLD.replace("-3", "-5"), LOG), carried);
+    assert_eq!(recheck(&folder, OLD, &OLD.replace("9 1 0", "8 1 0"), LOG), carried);
 }
 
 #[test]
 fn an_amendment_that_breaks_the_log_is_refused() {
     let folder = Folder::new("broken");
     let refused = told(1, "refused 21 at step 0: the row does not conflict");
-    assert_eq!(
-        recheck(&folder, OLD, &OLD.replace("-3", "-2"), LOG),
-        refused
-    );
+    assert_eq!(recheck(&folder, OLD, &OLD.replace("-3", "-2"), LOG), refused);
     let refused = told(1, "refused 4 at model word 0: the model ends early");
     assert_eq!(recheck(&folder, OLD, "", LOG), refused);
 }
@@ -58,20 +49,9 @@ fn an_amendment_that_breaks_the_log_is_refused() {
 fn other_bounds_mean_the_whole_check() {
     let folder = Folder::new("whole");
     let accepted = told(0, "accepted: variable 0 is never below 3");
-    assert_eq!(
-        recheck(&folder, OLD, &OLD.replace("0 10 2", "0 11 2"), LOG),
-        accepted
-    );
+    assert_eq!(recheck(&folder, OLD, &OLD.replace("0 10 2", "0 11 2"), LOG), accepted);
     let refused = told(1, "refused 21 at step 0: the row does not conflict");
-    assert_eq!(
-        recheck(
-            &folder,
-            OLD,
-            &OLD.replace("0 10 2 ", "0 11 2 ").replace("-3", "-2"),
-            LOG
-        ),
-        refused
-    );
+    assert_eq!(recheck(&folder, OLD, &OLD.replace("0 10 2 ", "0 11 2 ").replace("-3", "-2"), LOG), refused);
 }
 
 #[test]
@@ -96,12 +76,7 @@ fn a_log_that_was_not_accepted_is_never_carried() {
         told(0, &format!("accepted: variable 0 is never below 3; {whole} 4 at model word 0: the model ends early"))
     );
     let said = folder.run(&["recheck", "old", "new", "log", "--json"]);
-    assert!(
-        said.out
-            .contains("\"old\":\"refused 4 at model word 0: the model ends early\""),
-        "{}",
-        said.out
-    );
+    assert!(said.out.contains("\"old\":\"refused 4 at model word 0: the model ends early\""), "{}", said.out);
 }
 
 #[test]
@@ -110,23 +85,12 @@ fn bad_files_end_in_2() {
     folder.write("good", OLD);
     folder.write("log", LOG);
     folder.write("bad", "1 0 ten");
-    for (at, name) in [
-        (1, "bad"),
-        (2, "bad"),
-        (3, "bad"),
-        (1, "nowhere"),
-        (2, "nowhere"),
-        (3, "nowhere"),
-    ] {
+    for (at, name) in [(1, "bad"), (2, "bad"), (3, "bad"), (1, "nowhere"), (2, "nowhere"), (3, "nowhere")] {
         let mut arguments = ["recheck", "good", "good", "log"];
         arguments[at] = name;
         let said = folder.run(&arguments);
         assert_eq!((said.status, said.out.as_str()), (2, ""));
-        assert!(
-            said.errors.starts_with(&format!("dimpsyholt: {name}:")),
-            "{}",
-            said.errors
-        );
+        assert!(said.errors.starts_with(&format!("dimpsyholt: {name}:")), "{}", said.errors);
     }
 }
 
@@ -148,38 +112,18 @@ fn any_of_the_three_may_be_standard_input() {
 #[test]
 fn nothing_opens_that_the_new_model_does_not_accept() {
     let folder = Folder::new("generated");
-    let text = |words: &[i32]| {
-        words
-            .iter()
-            .map(|word| format!("{word}\n"))
-            .collect::<String>()
-    };
-    let path =
-        |name: &str| OsString::from(format!("{}/generated/{name}", env!("CARGO_TARGET_TMPDIR")));
-    let arguments = [
-        OsString::from("recheck"),
-        path("old"),
-        path("new"),
-        path("log"),
-    ];
+    let text = |words: &[i32]| words.iter().map(|word| format!("{word}\n")).collect::<String>();
+    let path = |name: &str| OsString::from(format!("{}/generated/{name}", env!("CARGO_TARGET_TMPDIR")));
+    let arguments = [OsString::from("recheck"), path("old"), path("new"), path("log")];
     let mut tally: BTreeMap<u8, usize> = BTreeMap::new();
     for case in Cases::new(15).filter(|case| case.old.is_some()).take(3_000) {
         folder.write("old", text(case.old.as_deref().unwrap()));
         folder.write("new", text(&case.model));
         folder.write("log", text(&case.log));
         let mut said = Vec::new();
-        let status = run(
-            &arguments,
-            &mut std::io::empty(),
-            &mut said,
-            &mut std::io::sink(),
-        );
+        let status = run(&arguments, &mut std::io::empty(), &mut said, &mut std::io::sink());
         let accepted = check(&case.model, &case.log, &mut vec![0; PLACES]).is_ok();
-        assert_eq!(
-            accepted,
-            matches!(status, Status::Accepted | Status::Carried),
-            "{case:?}"
-        );
+        assert_eq!(accepted, matches!(status, Status::Accepted | Status::Carried), "{case:?}");
         *tally.entry(status.number()).or_default() += 1;
     }
     for status in [0, 1, 3] {

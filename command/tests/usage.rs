@@ -26,62 +26,28 @@ fn bad_usage_ends_in_2() {
         (&["model", "log"], "model is no command"),
         (&["check"], "check needs two files: MODEL LOG"),
         (&["check", "model"], "check needs two files: MODEL LOG"),
-        (
-            &["check", "model", "log", "log"],
-            "check needs two files: MODEL LOG",
-        ),
+        (&["check", "model", "log", "log"], "check needs two files: MODEL LOG"),
         (&["explain", "model"], "explain needs two files: MODEL LOG"),
-        (
-            &["recheck", "model", "log"],
-            "recheck needs three files: OLD NEW LOG",
-        ),
+        (&["recheck", "model", "log"], "recheck needs three files: OLD NEW LOG"),
         (&["check", "-", "-"], "standard input can be read once"),
-        (
-            &["recheck", "-", "model", "-"],
-            "standard input can be read once",
-        ),
-        (
-            &["check", "model", "log", "--verbose"],
-            "--verbose is no option",
-        ),
+        (&["recheck", "-", "model", "-"], "standard input can be read once"),
+        (&["check", "model", "log", "--verbose"], "--verbose is no option"),
         (&["check", "model", "log", "-v"], "-v is no option"),
-        (
-            &["check", "model", "log", "--places"],
-            "--places needs a file",
-        ),
-        (
-            &["check", "model", "log", "--places", "-"],
-            "--places needs a file, standard output has the verdict",
-        ),
-        (
-            &["check", "model", "log", "--places", "a", "--places", "b"],
-            "--places is given twice",
-        ),
-        (
-            &["recheck", "model", "model", "log", "--places", "a"],
-            "recheck has no --places",
-        ),
-        (
-            &["explain", "model", "log", "--places", "a"],
-            "explain has no --places",
-        ),
+        (&["check", "model", "log", "--places"], "--places needs a file"),
+        (&["check", "model", "log", "--places", "-"], "--places needs a file, standard output has the verdict"),
+        (&["check", "model", "log", "--places", "a", "--places", "b"], "--places is given twice"),
+        (&["recheck", "model", "model", "log", "--places", "a"], "recheck has no --places"),
+        (&["explain", "model", "log", "--places", "a"], "explain has no --places"),
         (&["--help", "model"], "--help stands alone"),
         (&["check", "--help"], "--help is no option"),
     ] {
         let said = folder.run(arguments);
         assert_eq!((said.status, said.out.as_str()), (2, ""), "{arguments:?}");
-        assert_eq!(
-            said.errors,
-            format!("dimpsyholt: {error}; see dimpsyholt --help\n")
-        );
+        assert_eq!(said.errors, format!("dimpsyholt: {error}; see dimpsyholt --help\n"));
     }
     let said = folder.run(&["explain", "model", "log", "--json"]);
     assert_eq!(said.status, 2);
-    assert!(
-        said.out.contains("explain is for people and has no --json"),
-        "{}",
-        said.out
-    );
+    assert!(said.out.contains("explain is for people and has no --json"), "{}", said.out);
 }
 
 #[test]
@@ -89,28 +55,16 @@ fn help_and_version_are_said() {
     let folder = folder("help");
     let said = folder.run(&["--help"]);
     assert_eq!((said.status, said.errors.as_str()), (0, ""));
-    assert!(said
-        .out
-        .contains("Exit status: 0 accepted, 1 refused, 2 bad files or usage, 3 carried."));
+    assert!(said.out.contains("Exit status: 0 accepted, 1 refused, 2 bad files or usage, 3 carried."));
     let said = folder.run(&["--version"]);
-    assert_eq!(
-        (said.status, said.out.as_str()),
-        (0, "dimpsyholt 1.0.0, library 1.0.0, table format 1\n")
-    );
+    assert_eq!((said.status, said.out.as_str()), (0, "dimpsyholt 1.0.0, library 1.0.0, table format 1\n"));
 }
 
 /// The members of a flat line of JSON whose strings hold no comma before a quote.
 fn keys(line: &str) -> Vec<String> {
-    let inner = line
-        .trim_end()
-        .strip_prefix("{\"")
-        .unwrap()
-        .strip_suffix('}')
-        .unwrap();
+    let inner = line.trim_end().strip_prefix("{\"").unwrap().strip_suffix('}').unwrap();
     let members = inner.split(",\"");
-    members
-        .map(|member| member.split_once("\":").unwrap().0.to_string())
-        .collect()
+    members.map(|member| member.split_once("\":").unwrap().0.to_string()).collect()
 }
 
 #[test]
@@ -157,15 +111,9 @@ fn json_is_one_line_with_the_same_keys() {
         ),
     ] {
         let said = folder.run(arguments);
-        assert_eq!(
-            (said.out.as_str(), said.errors.as_str()),
-            (format!("{line}\n").as_str(), "")
-        );
+        assert_eq!((said.out.as_str(), said.errors.as_str()), (format!("{line}\n").as_str(), ""));
         assert!(line.contains(&format!("\"exit\":{},", said.status)));
         assert_eq!(keys(&line).len(), 15);
-        assert_eq!(
-            keys(&line),
-            keys(&folder.run(&["check", "model", "log", "--json"]).out)
-        );
+        assert_eq!(keys(&line), keys(&folder.run(&["check", "model", "log", "--json"]).out));
     }
 }

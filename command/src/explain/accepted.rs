@@ -1,7 +1,7 @@
 //! An accepted log: what was shown, and in how many steps of each kind.
 
 use super::log::{Body, LogTable};
-use super::page::{counted, Page};
+use super::page::{counted, line, Page};
 use std::collections::BTreeMap;
 
 pub fn explain(page: &mut Page, log: &LogTable) {
@@ -24,18 +24,9 @@ pub fn explain(page: &mut Page, log: &LogTable) {
         }
     }
     let inferences = rows.values().sum();
-    let (inferred, deduced) = (
-        counted(inferences, "inference"),
-        counted(deductions, "deduction"),
-    );
-    page.line(
-        0,
-        format!(
-            "The log has {}: {inferred}, {deduced} and the conclusion.",
-            counted(log.steps.len(), "step")
-        ),
-    );
+    let (inferred, deduced) = (counted(inferences, "inference"), counted(deductions, "deduction"));
+    line!(page, 0, "The log has {}: {inferred}, {deduced} and the conclusion.", counted(log.steps.len(), "step"),);
     for (row, count) in rows {
-        page.line(1, format!("{} from row {row}", counted(count, "inference")));
+        line!(page, 1, "{} from row {row}", counted(count, "inference"));
     }
 }

@@ -14,10 +14,7 @@ pub fn explain(page: &mut Page, model: &Model, step: &Step) {
     let conflicts = match &model.rows[*row] {
         Row::Linear { bound, terms } => linear::conflicts(page, *bound, terms, &left),
         Row::AllDifferent { variables } => all_different::conflicts(page, variables, fact, &left),
-        Row::Cumulative {
-            capacity,
-            activities,
-        } => cumulative::conflicts(page, *capacity, activities, &left),
+        Row::Cumulative { capacity, activities } => cumulative::conflicts(page, *capacity, activities, &left),
         Row::Circuit { variables } => circuit::conflicts(page, variables, &left),
     };
     if conflicts {

@@ -2,9 +2,9 @@
 
 use super::log::{Body, Fact, Step};
 use super::model::Model;
-use super::page::Page;
+use super::page::{line, Page};
 use super::say;
-use super::values::{box_of, declared, narrow, Box};
+use super::values::{box_of, declared, narrow, Left};
 
 /// 22: the hint at the position has a premise that does not hold.
 pub fn does_not_apply(page: &mut Page, model: &Model, steps: &[Step], step: &Step, position: u32) {
@@ -18,25 +18,18 @@ pub fn does_not_apply(page: &mut Page, model: &Model, steps: &[Step], step: &Ste
     let Some((cited, fact)) = run.hint(position) else {
         return page.disagrees();
     };
-    page.line(
-        0,
-        format!(
-            "Why: hint {position}, fact {cited}, does not apply. It says: {}",
-            say::fact(fact)
-        ),
-    );
+    line!(page, 0, "Why: hint {position}, fact {cited}, does not apply. It says: {}", say::fact(fact));
     let mut failing = 0;
     for premise in &fact.premises {
         let values = &run.left[premise.variable];
         if !values.all(premise) {
             failing += 1;
             let told = say::atom(premise);
-            page.line(
+            line!(
+                page,
                 1,
-                format!(
-                    "its premise \"{told}\" does not hold for every value left: x{} has {values}",
-                    premise.variable
-                ),
+                "its premise \"{told}\" does not hold for every value left: x{} has {values}",
+                premise.variable
             );
         }
     }
@@ -59,20 +52,13 @@ pub fn used_up(page: &mut Page, model: &Model, steps: &[Step], step: &Step) {
     for (variable, values) in run.left.iter().enumerate() {
         match *values == all[variable] {
             true => others += 1,
-            false => page.line(1, format!("x{variable}: {values}")),
+            false => line!(page, 1, "x{variable}: {values}"),
         }
     }
-    if others > 0 {
-        page.line(
-            1,
-            format!(
-                "all declared values to {}",
-                match others == all.len() {
-                    true => "every variable".to_string(),
-                    false => format!("the other {others}"),
-                }
-            ),
-        );
+    match others {
+        0 => {}
+        _ if others == all.len() => page.line(1, "every variable: all declared values"),
+        _ => line!(page, 1, "the other {others}: all declared values"),
     }
 }
 
@@ -80,17 +66,13 @@ pub fn used_up(page: &mut Page, model: &Model, steps: &[Step], step: &Step) {
 struct Run<'a> {
     steps: &'a [Step],
     hints: &'a [usize],
-    left: Box,
+    left: Left,
 }
 
 impl<'a> Run<'a> {
     fn of(model: &Model, steps: &'a [Step], step: &'a Step) -> Option<Run<'a>> {
         match &step.body {
-            Body::Deduction { fact, hints } => Some(Run {
-                steps,
-                hints,
-                left: box_of(model, fact),
-            }),
+            Body::Deduction { fact, hints } => Some(Run { steps, hints, left: box_of(model, fact) }),
             _ => None,
         }
     }
@@ -110,22 +92,13 @@ impl<'a> Run<'a> {
             let Some((cited, fact)) = self.hint(index) else {
                 return false;
             };
-            let holds = fact
-                .premises
-                .iter()
-                .all(|premise| self.left[premise.variable].all(premise));
+            let holds = fact.premises.iter().all(|premise| self.left[premise.variable].all(premise));
             let Some(consequent) = fact.consequent.filter(|_| holds) else {
                 return false;
             };
             narrow(&mut self.left, &consequent);
             let (variable, told) = (consequent.variable, say::fact(fact));
-            page.line(
-                1,
-                format!(
-                    "hint {index}, fact {cited}: {told}; leaves x{variable} {}",
-                    self.left[variable]
-                ),
-            );
+            line!(page, 1, "hint {index}, fact {cited}: {told}; leaves x{variable} {}", self.left[variable]);
             if self.left[variable].is_empty() {
                 return false;
             }

@@ -1,13 +1,10 @@
 //! 21 in a linear row: the least sum and the bound.
 
-use super::page::Page;
-use super::values::Box;
+use super::page::{line, Page};
+use super::values::Left;
 
-pub fn conflicts(page: &mut Page, bound: i32, terms: &[(i32, usize)], left: &Box) -> bool {
-    page.line(
-        0,
-        "Why: the least sum is not above the bound. Term by term, the least that each can add:",
-    );
+pub fn conflicts(page: &mut Page, bound: i32, terms: &[(i32, usize)], left: &Left) -> bool {
+    page.line(0, "Why: the least sum is not above the bound. Term by term, the least that each can add:");
     let mut sum = 0;
     for &(coefficient, variable) in terms {
         let (end, value) = match coefficient < 0 {
@@ -15,15 +12,9 @@ pub fn conflicts(page: &mut Page, bound: i32, terms: &[(i32, usize)], left: &Box
             false => ("smallest", left[variable].least()),
         };
         let least = i64::from(coefficient) * value;
-        page.line(1, format!("{coefficient}*x{variable}: {coefficient} times {value}, the {end} value left, is {least}"));
+        line!(page, 1, "{coefficient}*x{variable}: {coefficient} times {value}, the {end} value left, is {least}");
         sum += least;
     }
-    page.line(
-        1,
-        format!(
-            "least sum {sum}, bound {bound}: a conflict needs at least {}",
-            i64::from(bound) + 1
-        ),
-    );
+    line!(page, 1, "least sum {sum}, bound {bound}: a conflict needs at least {}", i64::from(bound) + 1);
     sum > i64::from(bound)
 }

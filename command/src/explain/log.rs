@@ -30,11 +30,7 @@ impl Atom {
             Relation::Equal => (Relation::NotEqual, self.value),
             Relation::NotEqual => (Relation::Equal, self.value),
         };
-        Atom {
-            relation,
-            value,
-            ..self
-        }
+        Atom { relation, value, ..self }
     }
 }
 
@@ -51,22 +47,10 @@ impl Fact {
 }
 
 pub enum Body {
-    Inference {
-        row: usize,
-        fact: Fact,
-    },
-    Deduction {
-        fact: Fact,
-        hints: Vec<usize>,
-    },
-    NoAssignment {
-        cited: usize,
-    },
-    NeverBelow {
-        variable: usize,
-        value: i32,
-        cited: usize,
-    },
+    Inference { row: usize, fact: Fact },
+    Deduction { fact: Fact, hints: Vec<usize> },
+    NoAssignment { cited: usize },
+    NeverBelow { variable: usize, value: i32, cited: usize },
 }
 
 pub struct Step {
@@ -108,66 +92,39 @@ pub fn read_log(words: &[i32], model: &Model) -> LogTable {
             break (!reader.at_end()).then_some(Fault::Surplus);
         }
     };
-    LogTable {
-        steps,
-        trail: reader.trail,
-        fault,
-    }
+    LogTable { steps, trail: reader.trail, fault }
 }
 
 fn read_step(reader: &mut Reader, step: usize, model: &Model) -> Result<Body, Fault> {
     let variables = model.bounds.len();
     let kinds = "1 inference, 2 deduction, 3 or 4 conclusion";
     let cited = format!("the number of the fact that step {step} concludes from");
-    Ok(
-        match reader.take(format!("the kind of step {step}: {kinds}"), 1, 4)? {
-            1 => Body::Inference {
-                row: reader.number(format!("the row of step {step}"), model.rows.len())?,
-                fact: read_fact(reader, step, variables)?,
-            },
-            2 => Body::Deduction {
-                fact: read_fact(reader, step, variables)?,
-                hints: read_hints(reader, step)?,
-            },
-            3 => Body::NoAssignment {
-                cited: reader.number(cited, step)?,
-            },
-            _ => Body::NeverBelow {
-                variable: reader.number(format!("the variable of step {step}"), variables)?,
-                value: reader.take(format!("the claimed value of step {step}"), -VALUE, VALUE)?,
-                cited: reader.number(cited, step)?,
-            },
+    Ok(match reader.take(format!("the kind of step {step}: {kinds}"), 1, 4)? {
+        1 => Body::Inference {
+            row: reader.number(format!("the row of step {step}"), model.rows.len())?,
+            fact: read_fact(reader, step, variables)?,
         },
-    )
+        2 => Body::Deduction { fact: read_fact(reader, step, variables)?, hints: read_hints(reader, step)? },
+        3 => Body::NoAssignment { cited: reader.number(cited, step)? },
+        _ => Body::NeverBelow {
+            variable: reader.number(format!("the variable of step {step}"), variables)?,
+            value: reader.take(format!("the claimed value of step {step}"), -VALUE, VALUE)?,
+            cited: reader.number(cited, step)?,
+        },
+    })
 }
 
 fn read_fact(reader: &mut Reader, step: usize, variables: usize) -> Result<Fact, Fault> {
-    let count = reader.take(
-        format!("p, the number of premises of step {step}"),
-        0,
-        PREMISES,
-    )?;
+    let count = reader.take(format!("p, the number of premises of step {step}"), 0, PREMISES)?;
     let mut premises = Vec::new();
     for k in 0..count {
-        premises.push(read_atom(
-            reader,
-            &format!("premise {k} of step {step}"),
-            variables,
-        )?);
+        premises.push(read_atom(reader, &format!("premise {k} of step {step}"), variables)?);
     }
-    let consequent =
-        match reader.take(format!("q, the number of consequents of step {step}"), 0, 1)? {
-            0 => None,
-            _ => Some(read_atom(
-                reader,
-                &format!("the consequent of step {step}"),
-                variables,
-            )?),
-        };
-    Ok(Fact {
-        premises,
-        consequent,
-    })
+    let consequent = match reader.take(format!("q, the number of consequents of step {step}"), 0, 1)? {
+        0 => None,
+        _ => Some(read_atom(reader, &format!("the consequent of step {step}"), variables)?),
+    };
+    Ok(Fact { premises, consequent })
 }
 
 fn read_atom(reader: &mut Reader, of: &str, variables: usize) -> Result<Atom, Fault> {
@@ -180,20 +137,11 @@ fn read_atom(reader: &mut Reader, of: &str, variables: usize) -> Result<Atom, Fa
             3 => Relation::Equal,
             _ => Relation::NotEqual,
         },
-        value: reader
-            .take(format!("the value of {of}"), -VALUE, VALUE)?
-            .into(),
+        value: reader.take(format!("the value of {of}"), -VALUE, VALUE)?.into(),
     })
 }
 
 fn read_hints(reader: &mut Reader, step: usize) -> Result<Vec<usize>, Fault> {
     let count = reader.take(format!("h, the number of hints of step {step}"), 0, HINTS)?;
-    (0..count)
-        .map(|k| {
-            reader.number(
-                format!("hint {k} of step {step}, the number of an earlier fact"),
-                step,
-            )
-        })
-        .collect()
+    (0..count).map(|k| reader.number(format!("hint {k} of step {step}, the number of an earlier fact"), step)).collect()
 }

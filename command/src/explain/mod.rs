@@ -25,9 +25,10 @@ pub use page::DISAGREES;
 use dimpsyholt::{Cause, Refusal};
 use log::read_log;
 use model::read_model;
-use page::Page;
+use page::{line, Page};
 
-const FOR_READING: &str = "The verdict above is the library's. What follows is worked out again for people to read; it decides nothing.";
+const FOR_READING: &str =
+    "The verdict above is the library's. What follows is worked out again for people to read; it decides nothing.";
 
 /// Explains the verdict on a model and a log: an acceptance, or the refusal.
 pub fn explain(model: &[i32], log: &[i32], refusal: Option<Refusal>) -> String {
@@ -66,14 +67,9 @@ fn explain_tables(page: &mut Page, model: &[i32], log: &[i32], refusal: Option<R
     match refusal.cause {
         Cause::BoxEmpty => empty::explain(page, &table.model, step),
         Cause::RowDoesNotConflict => conflict::explain(page, &table.model, step),
-        Cause::HintDoesNotApply => {
-            hints::does_not_apply(page, &table.model, &read.steps, step, refusal.position)
-        }
+        Cause::HintDoesNotApply => hints::does_not_apply(page, &table.model, &read.steps, step, refusal.position),
         Cause::HintsUsedUp => hints::used_up(page, &table.model, &read.steps, step),
         Cause::FactDoesNotFit => conclusion::explain(page, &read.steps, step),
-        other => page.line(
-            0,
-            format!("There is no explanation for {}: {other}.", other.number()),
-        ),
+        other => line!(page, 0, "There is no explanation for {}: {other}.", other.number()),
     }
 }

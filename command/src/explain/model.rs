@@ -49,9 +49,7 @@ impl Row {
     pub fn variables(&self) -> Vec<usize> {
         match self {
             Row::Linear { terms, .. } => terms.iter().map(|&(_, variable)| variable).collect(),
-            Row::Cumulative { activities, .. } => {
-                activities.iter().map(|activity| activity.start).collect()
-            }
+            Row::Cumulative { activities, .. } => activities.iter().map(|activity| activity.start).collect(),
             Row::AllDifferent { variables } | Row::Circuit { variables } => variables.clone(),
         }
     }
@@ -69,11 +67,7 @@ pub fn read_model(words: &[i32]) -> ModelTable {
     let mut model = Model::default();
     let read = into(&mut model, &mut reader);
     let surplus = (!reader.at_end()).then_some(Fault::Surplus);
-    ModelTable {
-        model,
-        trail: reader.trail,
-        fault: read.err().or(surplus),
-    }
+    ModelTable { model, trail: reader.trail, fault: read.err().or(surplus) }
 }
 
 fn into(model: &mut Model, reader: &mut Reader) -> Result<(), Fault> {
@@ -95,41 +89,27 @@ fn read_row(reader: &mut Reader, row: i32, variables: usize) -> Result<Row, Faul
     let kinds = "1 linear, 2 all-different, 3 cumulative, 4 circuit";
     match reader.take(format!("the kind of row {row}: {kinds}"), 1, 4)? {
         1 => read_linear(reader, row, variables),
-        2 => read_list(reader, row, "variable", variables)
-            .map(|variables| Row::AllDifferent { variables }),
+        2 => read_list(reader, row, "variable", variables).map(|variables| Row::AllDifferent { variables }),
         3 => read_cumulative(reader, row, variables),
-        _ => read_list(reader, row, "position", variables)
-            .map(|variables| Row::Circuit { variables }),
+        _ => read_list(reader, row, "position", variables).map(|variables| Row::Circuit { variables }),
     }
 }
 
 fn read_linear(reader: &mut Reader, row: i32, variables: usize) -> Result<Row, Fault> {
     let count = reader.take(format!("n of row {row}, its number of terms"), 1, PARTS)?;
-    let bound = reader.take(
-        format!("the bound of row {row}"),
-        i32::MIN.into(),
-        i32::MAX.into(),
-    )?;
+    let bound = reader.take(format!("the bound of row {row}"), i32::MIN.into(), i32::MAX.into())?;
     let mut terms = Vec::new();
     for k in 0..count {
-        let coefficient = reader.take(
-            format!("the coefficient of term {k} of row {row}"),
-            -COEFFICIENT,
-            COEFFICIENT,
-        )?;
-        let variable =
-            reader.number(format!("the variable of term {k} of row {row}"), variables)?;
+        let coefficient =
+            reader.take(format!("the coefficient of term {k} of row {row}"), -COEFFICIENT, COEFFICIENT)?;
+        let variable = reader.number(format!("the variable of term {k} of row {row}"), variables)?;
         terms.push((coefficient, variable));
     }
     Ok(Row::Linear { bound, terms })
 }
 
 fn read_cumulative(reader: &mut Reader, row: i32, variables: usize) -> Result<Row, Fault> {
-    let count = reader.take(
-        format!("n of row {row}, its number of activities"),
-        1,
-        PARTS,
-    )?;
+    let count = reader.take(format!("n of row {row}, its number of activities"), 1, PARTS)?;
     let capacity = reader.take(format!("the capacity of row {row}"), 0, CAPACITY)?;
     let mut activities = Vec::new();
     for k in 0..count {
@@ -140,19 +120,11 @@ fn read_cumulative(reader: &mut Reader, row: i32, variables: usize) -> Result<Ro
             usage: reader.take(format!("the usage {of}"), 0, USAGE)?,
         });
     }
-    Ok(Row::Cumulative {
-        capacity,
-        activities,
-    })
+    Ok(Row::Cumulative { capacity, activities })
 }
 
 /// Variables of which none comes twice.
-fn read_list(
-    reader: &mut Reader,
-    row: i32,
-    part: &str,
-    variables: usize,
-) -> Result<Vec<usize>, Fault> {
+fn read_list(reader: &mut Reader, row: i32, part: &str, variables: usize) -> Result<Vec<usize>, Fault> {
     let count = reader.take(format!("n of row {row}, its number of {part}s"), 2, PARTS)?;
     let first = reader.at();
     let mut list: Vec<usize> = Vec::new();

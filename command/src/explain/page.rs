@@ -24,6 +24,14 @@ impl Page {
     }
 }
 
+/// A line with values in it: `line!(page, 1, "x{variable}: {values}")`.
+macro_rules! line {
+    ($page:expr, $indent:expr, $($text:tt)*) => {
+        $page.line($indent, format_args!($($text)*))
+    };
+}
+pub(super) use line;
+
 /// `1 row`, `2 rows`.
 pub fn counted(count: usize, what: &str) -> String {
     match count {

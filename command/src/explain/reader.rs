@@ -28,10 +28,7 @@ pub struct Reader<'a> {
 
 impl<'a> Reader<'a> {
     pub fn new(words: &'a [i32]) -> Reader<'a> {
-        Reader {
-            words,
-            trail: Vec::new(),
-        }
+        Reader { words, trail: Vec::new() }
     }
 
     /// How many words were read.
@@ -45,11 +42,7 @@ impl<'a> Reader<'a> {
 
     pub fn take(&mut self, what: impl Into<String>, low: i64, high: i64) -> Result<i32, Fault> {
         let word = self.words.get(self.at()).copied();
-        self.trail.push(Expected {
-            what: what.into(),
-            low,
-            high,
-        });
+        self.trail.push(Expected { what: what.into(), low, high });
         match word {
             None => Err(Fault::Missing),
             Some(word) if (low..=high).contains(&i64::from(word)) => Ok(word),
@@ -59,7 +52,6 @@ impl<'a> Reader<'a> {
 
     /// A number below `count`.
     pub fn number(&mut self, what: impl Into<String>, count: usize) -> Result<usize, Fault> {
-        self.take(what, 0, count as i64 - 1)
-            .map(|word| word as usize)
+        self.take(what, 0, count as i64 - 1).map(|word| word as usize)
     }
 }

@@ -2,41 +2,32 @@
 
 use super::log::{Atom, Body, Fact, Relation, Step};
 use super::model::{Model, ModelTable, Row};
-use super::page::{counted, Page};
+use super::page::{counted, line, Page};
 use super::values::{box_of, Stretch};
 use std::collections::BTreeSet;
 
 pub fn model(page: &mut Page, table: &ModelTable) {
     let Model { bounds, rows } = &table.model;
-    let so_far = if table.fault.is_some() {
-        ", as far as it can be read"
-    } else {
-        ""
+    let so_far = if table.fault.is_some() { ", as far as it can be read" } else { "" };
+    let variables = match bounds.len() {
+        0 => "no variable".to_string(),
+        1 => "1 variable, x0,".to_string(),
+        count => format!("{count} variables, x0 to x{},", count - 1),
     };
-    let (variables, count) = (
-        counted(bounds.len(), "variable"),
-        counted(rows.len(), "row"),
-    );
-    page.line(0, format!("The model{so_far}: {variables} and {count}."));
+    line!(page, 0, "The model{so_far}: {variables} and {}.", counted(rows.len(), "row"));
     let mut first = 0;
     while first < bounds.len() {
-        let alike = bounds[first..]
-            .iter()
-            .take_while(|&&pair| pair == bounds[first])
-            .count();
+        let alike = bounds[first..].iter().take_while(|&&pair| pair == bounds[first]).count();
         let (low, high) = bounds[first];
         let names = match alike {
             1 => format!("x{first} is"),
             _ => format!("x{first} to x{} are each", first + alike - 1),
         };
-        page.line(
-            1,
-            format!("{names} in {}", Stretch(low.into(), high.into())),
-        );
+        line!(page, 1, "{names} in {}", Stretch(low.into(), high.into()));
         first += alike;
     }
     for (number, row) in rows.iter().enumerate() {
-        page.line(1, format!("row {number}, {}: {}", head(row), body(row)));
+        line!(page, 1, "row {number}, {}: {}", head(row), body(row));
     }
 }
 
@@ -47,9 +38,7 @@ fn head(row: &Row) -> String {
         Row::AllDifferent { variables } => {
             format!("all-different of {}", counted(variables.len(), "variable"))
         }
-        Row::Cumulative { activities, .. } if activities.len() == 1 => {
-            "cumulative of 1 activity".to_string()
-        }
+        Row::Cumulative { activities, .. } if activities.len() == 1 => "cumulative of 1 activity".to_string(),
         Row::Cumulative { activities, .. } => {
             format!("cumulative of {} activities", activities.len())
         }
@@ -63,24 +52,13 @@ fn body(row: &Row) -> String {
     match row {
         Row::Linear { bound, terms } => format!("{} is at most {bound}", sum(terms)),
         Row::AllDifferent { variables } => format!("no two of {} are equal", names(variables)),
-        Row::Cumulative {
-            capacity,
-            activities,
-        } => {
-            let told = activities
-                .iter()
-                .map(|a| format!("x{} (lasts {}, uses {})", a.start, a.duration, a.usage));
+        Row::Cumulative { capacity, activities } => {
+            let told = activities.iter().map(|a| format!("x{} (lasts {}, uses {})", a.start, a.duration, a.usage));
             let told: Vec<String> = told.collect();
-            format!(
-                "at no time do those that run use more than {capacity}; starts {}",
-                told.join(", ")
-            )
+            format!("at no time do those that run use more than {capacity}; starts {}", told.join(", "))
         }
         Row::Circuit { variables } => {
-            format!(
-                "one round trip over all positions; the next ones after 0, 1, ... are {}",
-                names(variables)
-            )
+            format!("one round trip over all positions; the next ones after 0, 1, ... are {}", names(variables))
         }
     }
 }
@@ -103,10 +81,7 @@ fn sum(terms: &[(i32, usize)]) -> String {
 }
 
 pub fn names(variables: &[usize]) -> String {
-    let names: Vec<String> = variables
-        .iter()
-        .map(|variable| format!("x{variable}"))
-        .collect();
+    let names: Vec<String> = variables.iter().map(|variable| format!("x{variable}")).collect();
     names.join(", ")
 }
 
@@ -136,7 +111,7 @@ pub fn passed(page: &mut Page, steps: usize) {
     match steps {
         0 => page.line(0, "No step has passed."),
         1 => page.line(0, "Step 0 has passed."),
-        _ => page.line(0, format!("Steps 0 to {} have passed.", steps - 1)),
+        _ => line!(page, 0, "Steps 0 to {} have passed.", steps - 1),
     }
 }
 
@@ -156,18 +131,10 @@ pub fn step(page: &mut Page, model: &Model, number: usize, step: &Step) {
     let what = match &step.body {
         Body::Inference { fact: told, .. } | Body::Deduction { fact: told, .. } => fact(told),
         Body::NoAssignment { .. } => "no assignment meets every row".to_string(),
-        Body::NeverBelow {
-            variable, value, ..
-        } => format!("x{variable} is never below {value}"),
+        Body::NeverBelow { variable, value, .. } => format!("x{variable} is never below {value}"),
     };
-    page.line(0, format!("step {number}{how}: {what}"));
-    page.line(
-        1,
-        format!(
-            "words {} of the log",
-            Stretch(step.start as i64, step.end as i64 - 1)
-        ),
-    );
+    line!(page, 0, "step {number}{how}: {what}");
+    line!(page, 1, "words {} of the log", Stretch(step.start as i64, step.end as i64 - 1));
     if let Some(fact) = step.fact() {
         left(page, model, step, fact);
     }
@@ -192,7 +159,7 @@ fn left(page: &mut Page, model: &Model, step: &Step, fact: &Fact) {
     );
     let values = box_of(model, fact);
     for variable in named {
-        page.line(2, format!("x{variable}: {}", values[variable]));
+        line!(page, 2, "x{variable}: {}", values[variable]);
     }
 }
 

@@ -15,10 +15,7 @@ impl Values {
 
     /// Those from `low` to `high`.
     fn kept(&self, low: i64, high: i64) -> Values {
-        let cut = self
-            .0
-            .iter()
-            .map(|&(first, last)| (first.max(low), last.min(high)));
+        let cut = self.0.iter().map(|&(first, last)| (first.max(low), last.min(high)));
         Values(cut.filter(|(first, last)| first <= last).collect())
     }
 
@@ -30,10 +27,7 @@ impl Values {
             Relation::AtLeast => self.kept(value, i64::MAX),
             Relation::Equal => self.kept(value, value),
             Relation::NotEqual => {
-                let (below, above) = (
-                    self.kept(i64::MIN, value - 1),
-                    self.kept(value + 1, i64::MAX),
-                );
+                let (below, above) = (self.kept(i64::MIN, value - 1), self.kept(value + 1, i64::MAX));
                 Values([below.0, above.0].concat())
             }
         }
@@ -49,9 +43,7 @@ impl Values {
     }
 
     pub fn contains(&self, value: i64) -> bool {
-        self.0
-            .iter()
-            .any(|&(first, last)| (first..=last).contains(&value))
+        self.0.iter().any(|&(first, last)| (first..=last).contains(&value))
     }
 
     /// The least value; 0 where there is none.
@@ -70,15 +62,11 @@ impl Values {
 
     /// The least value that is not below `from`.
     pub fn next_from(&self, from: i64) -> Option<i64> {
-        self.0
-            .iter()
-            .find(|&&(_, last)| last >= from)
-            .map(|&(first, _)| first.max(from))
+        self.0.iter().find(|&&(_, last)| last >= from).map(|&(first, _)| first.max(from))
     }
 
     pub fn union(sets: &[&Values]) -> Values {
-        let mut stretches: Vec<(i64, i64)> =
-            sets.iter().flat_map(|set| set.0.iter().copied()).collect();
+        let mut stretches: Vec<(i64, i64)> = sets.iter().flat_map(|set| set.0.iter().copied()).collect();
         stretches.sort_unstable();
         let mut joined: Vec<(i64, i64)> = Vec::new();
         for (first, last) in stretches {
@@ -92,18 +80,15 @@ impl Values {
 }
 
 /// The values left to each variable.
-pub type Box = Vec<Values>;
+pub type Left = Vec<Values>;
 
-pub fn declared(model: &Model) -> Box {
-    let sets = model
-        .bounds
-        .iter()
-        .map(|&(low, high)| Values::between(low.into(), high.into()));
+pub fn declared(model: &Model) -> Left {
+    let sets = model.bounds.iter().map(|&(low, high)| Values::between(low.into(), high.into()));
     sets.collect()
 }
 
 /// What the fact's premises and its negated consequent leave.
-pub fn box_of(model: &Model, fact: &Fact) -> Box {
+pub fn box_of(model: &Model, fact: &Fact) -> Left {
     let mut left = declared(model);
     for atom in assumed(fact) {
         narrow(&mut left, &atom);
@@ -117,7 +102,7 @@ pub fn assumed(fact: &Fact) -> Vec<Atom> {
     fact.premises.iter().copied().chain(negated).collect()
 }
 
-pub fn narrow(left: &mut Box, atom: &Atom) {
+pub fn narrow(left: &mut Left, atom: &Atom) {
     left[atom.variable] = left[atom.variable].narrowed(atom);
 }
 
@@ -130,11 +115,8 @@ impl fmt::Display for Values {
             return f.write_str("no value");
         }
         write!(f, "{}", Stretch(self.least(), self.largest()))?;
-        let gaps: Vec<String> = self
-            .0
-            .windows(2)
-            .map(|pair| Stretch(pair[0].1 + 1, pair[1].0 - 1).to_string())
-            .collect();
+        let gaps: Vec<String> =
+            self.0.windows(2).map(|pair| Stretch(pair[0].1 + 1, pair[1].0 - 1).to_string()).collect();
         if gaps.is_empty() {
             return Ok(());
         }
@@ -163,27 +145,16 @@ mod tests {
     use super::*;
 
     fn atom(relation: Relation, value: i64) -> Atom {
-        Atom {
-            variable: 0,
-            relation,
-            value,
-        }
+        Atom { variable: 0, relation, value }
     }
 
     #[test]
     fn values_are_exact() {
         let all = Values::between(0, 9);
-        let holes = all
-            .narrowed(&atom(Relation::NotEqual, 4))
-            .narrowed(&atom(Relation::NotEqual, 5));
+        let holes = all.narrowed(&atom(Relation::NotEqual, 4)).narrowed(&atom(Relation::NotEqual, 5));
         assert_eq!(holes.to_string(), "0..9 but not 4..5");
-        assert_eq!(
-            (holes.count(), holes.contains(4), holes.next_from(4)),
-            (8, false, Some(6))
-        );
-        let ends = all
-            .narrowed(&atom(Relation::NotEqual, 0))
-            .narrowed(&atom(Relation::NotEqual, 9));
+        assert_eq!((holes.count(), holes.contains(4), holes.next_from(4)), (8, false, Some(6)));
+        let ends = all.narrowed(&atom(Relation::NotEqual, 0)).narrowed(&atom(Relation::NotEqual, 9));
         assert_eq!(ends, Values::between(1, 8));
         assert!(holes.narrowed(&atom(Relation::Equal, 4)).is_empty());
         assert!(Values::between(3, 2).is_empty());
