@@ -32,7 +32,7 @@ fn an_acceptance() {
         log,
         &[
             "accepted: no assignment meets every row",
-            "The model: 3 variables, x0 to x2, and 1 row.",
+            "The model: 3 variables and 1 row.",
             "x0 to x2 are each in 1..2",
             "row 0, all-different of 3 variables: no two of x0, x1, x2 are equal",
             "Shown: no assignment within the bounds meets every row.",

@@ -9,12 +9,8 @@ use std::collections::BTreeSet;
 pub fn model(page: &mut Page, table: &ModelTable) {
     let Model { bounds, rows } = &table.model;
     let so_far = if table.fault.is_some() { ", as far as it can be read" } else { "" };
-    let variables = match bounds.len() {
-        0 => "no variable".to_string(),
-        1 => "1 variable, x0,".to_string(),
-        count => format!("{count} variables, x0 to x{},", count - 1),
-    };
-    line!(page, 0, "The model{so_far}: {variables} and {}.", counted(rows.len(), "row"));
+    let (variables, count) = (counted(bounds.len(), "variable"), counted(rows.len(), "row"));
+    line!(page, 0, "The model{so_far}: {variables} and {count}.");
     let mut first = 0;
     while first < bounds.len() {
         let alike = bounds[first..].iter().take_while(|&&pair| pair == bounds[first]).count();
