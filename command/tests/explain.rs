@@ -271,4 +271,11 @@ fn a_conclusion() {
         "1 0 1 0 1 2 0 3 0",
         &["the conclusion needs a fact without premises: always false", "what does not fit: it has 1 premise"],
     );
+    explained("premise", AT_LEAST, "1 0 1 0 1 9 1 0 2 3 4 0 3 0", &["what does not fit: it has 1 premise"]);
+    explained(
+        "relation",
+        "1 0 3 1  1 1 -3 -1 0",
+        "1 0 0 1 0 3 3 4 0 3 0",
+        &["what does not fit: its consequent is \"x0 is 3\""],
+    );
 }
