@@ -316,9 +316,10 @@ class Log:
         ending = conclusion + [numbers[last.number]]
         lines.append(f"# step {len(numbers)}, from fact {numbers[last.number]}: {claim}")
         lines.append(" ".join(map(str, ending)))
-        if count + len(ending) > MOST_WORDS:
-            raise OverLimit(f"the log needs {count + len(ending)} words, and {MOST_WORDS} is the most")
-        return "\n".join(lines) + "\n"
+        count += len(ending)
+        if count > MOST_WORDS:
+            raise OverLimit(f"the log needs {count} words, and {MOST_WORDS} is the most")
+        return "\n".join([f"# {claim}: {len(numbers) + 1} steps, {count} words", *lines]) + "\n"
 
 
 # ---------------------------------------------------------------- the search
