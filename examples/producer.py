@@ -190,14 +190,14 @@ class Circuit:
 def read_words(path):
     """The words of a text file: decimal, white space between, # starts a comment."""
     try:
-        with open(path, encoding="utf-8") as file:
-            lines = file.read().splitlines()
+        with open(path, encoding="utf-8", newline="") as file:
+            lines = file.read().split("\n")
     except (OSError, UnicodeDecodeError) as trouble:
         raise BadInput(f"{path}: {trouble}") from trouble
     words = []
     for number, line in enumerate(lines, 1):
-        for found in re.finditer(r"\S+", line.split("#")[0]):
-            if not re.fullmatch(r"-?[0-9]+", found[0]) or not -2**31 <= int(found[0]) < 2**31:
+        for found in re.finditer(r"[^ \t]+", line.removesuffix("\r").split("#")[0]):
+            if not re.fullmatch(r"-?[0-9]+", found[0], re.ASCII) or not -2**31 <= int(found[0]) < 2**31:
                 raise BadInput(f"{path}:{number}:{found.start() + 1}: no word: {found[0]}")
             words.append(int(found[0]))
     return words
