@@ -78,7 +78,7 @@ def generated(chance):
         size = chance.randint(1, 4)
         if kind == 1:
             terms = [word for _ in range(size) for word in (chance.randint(-3, 3), chance.randrange(count))]
-            rows.append([1, size, chance.randint(-12, 5), *terms])
+            rows.append([1, size, chance.randint(-8, 8), *terms])
         elif kind == 3:
             parts = [(chance.randrange(count), chance.randint(1, 3), chance.randint(0, 3)) for _ in range(size)]
             rows.append([3, size, chance.randint(0, 4), *(word for part in parts for word in part)])
