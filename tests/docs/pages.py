@@ -8,6 +8,7 @@ What stands on the line above a fence says what the block is:
   nothing                   it is an sh block and is run; any other block without a mark is a failure
 """
 
+import os
 import re
 import shutil
 import subprocess
@@ -66,7 +67,9 @@ def copy_of(root, into):
 
 
 def run_shell(text, folder):
-    return subprocess.run(["bash", "-e", "-o", "pipefail", "-c", text], cwd=folder, capture_output=True, text=True, timeout=900)
+    """As a reader would run it: nothing is set for the tests, and the first command that fails ends it."""
+    settings = {name: value for name, value in os.environ.items() if name not in ("CARGO_TARGET_DIR", "DIMPSYHOLT_LIB_DIR")}
+    return subprocess.run(["bash", "-e", "-o", "pipefail", "-c", text], cwd=folder, env=settings, capture_output=True, text=True)
 
 
 def trouble_of_long(block, root):
@@ -127,16 +130,44 @@ class Page:
         return first_difference(block.text, self.said)
 
 
+def examined(root, text):
+    """Each example of a page with what is wrong with it, as (line, trouble); the trouble is empty where nothing is."""
+    blocks, unfenced = blocks_of(text)
+    for line in unfenced:
+        yield line, "code that is not fenced"
+    with tempfile.TemporaryDirectory() as scratch:
+        folder = Path(scratch) / "repository"
+        folder.mkdir()
+        copy_of(root, folder)
+        page = Page(root, folder)
+        for block in blocks:
+            yield block.line, page.trouble(block)
+
+
+# pages that must not pass
+BROKEN = {
+    "a block without a mark": "```\nx\n```\n",
+    "code without a fence": "Text:\n\n    x\n",
+    "a fence that is left open": "```sh\ntrue\n",
+    "a command that fails": "```sh\nfalse\ntrue\n```\n",
+    "a command that fails in a pipe": "```sh\nfalse | cat\n```\n",
+    "another output": "```sh\necho a\n```\n\n<!-- output -->\n```\nb\n```\n",
+    "too little output": "```sh\nprintf 'a\\nb\\n'\n```\n\n<!-- output -->\n```\na\n```\n",
+    "output of nothing": "<!-- output -->\n```\n```\n",
+    "a file that the repository has otherwise": "<!-- file: README.md -->\n```\nx\n```\n",
+    "a file outside": "<!-- file: ../x -->\n```\nx\n```\n",
+    "a long command that is not there": "<!-- not run: long -->\n```sh\ntools/none\n```\n",
+    "a long command that no test runs": "<!-- not run: long -->\n```sh\ncat README.md\n```\n",
+    "a long command without a reason": "<!-- not run:  -->\n```sh\ntools/build\n```\n",
+}
+
+
 def run(root, tally):
+    for name, text in BROKEN.items():
+        noticed = any(trouble for _, trouble in examined(root, text))
+        tally.check(name, "" if noticed else "nobody noticed")
     for name in PAGES:
-        blocks, unfenced = blocks_of((root / name).read_text())
-        for line in unfenced:
-            tally.check(f"{name}:{line}", "code that is not fenced")
-        with tempfile.TemporaryDirectory() as scratch:
-            folder = Path(scratch) / "repository"
-            folder.mkdir()
-            copy_of(root, folder)
-            page = Page(root, folder)
-            for block in blocks:
-                tally.check(f"{name}:{block.line}", page.trouble(block))
-        tally.check(name, "" if blocks else "no example at all")
+        found = list(examined(root, (root / name).read_text()))
+        for line, trouble in found:
+            tally.check(f"{name}:{line}", trouble)
+        tally.check(name, "" if found else "no example at all")
