@@ -520,7 +520,7 @@ def run(arguments):
 
 
 def main():
-    sys.setrecursionlimit(100_000)
+    sys.setrecursionlimit(10_000)  # a node for each split above it: at most 64 variables, halved 18 times each
     try:
         run(sys.argv[1:])
     except Assignment as found:

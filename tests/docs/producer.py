@@ -118,6 +118,9 @@ def try_generated(bench, seed):
     done = bench.produce("no-assignment", model)
     if not good:
         bench.accepted(f"generated model {seed}", model, done, "no assignment meets every row")
+        more = bounds[0][1] + 1  # with no assignment any bound holds, one above the high too
+        claim = f"variable 0 is never below {more}"
+        bench.accepted(f"bound of {seed}", model, bench.produce("never-below", model, 0, more), claim)
         return False
     bench.no_log(f"generated model {seed}", done, 1, "these values meet every row")
     found = tuple(map(int, done.stderr.split(":")[-1].split()))
@@ -126,8 +129,7 @@ def try_generated(bench, seed):
     if least > bounds[0][0]:
         claim = f"variable 0 is never below {least}"
         bench.accepted(f"bound of {seed}", model, bench.produce("never-below", model, 0, least), claim)
-    if least < 100_000:
-        bench.no_log(f"past the bound of {seed}", bench.produce("never-below", model, 0, least + 1), 1, "these values")
+    bench.no_log(f"past the bound of {seed}", bench.produce("never-below", model, 0, least + 1), 1, "these values")
     return True
 
 
