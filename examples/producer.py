@@ -1,5 +1,5 @@
 #!/usr/bin/env python3
-"""Writes logs that the checker accepts. It needs docs/FORMAT.md and nothing else.
+"""Writes logs that the checker accepts. Every rule that it uses stands in docs/FORMAT.md.
 
   producer.py no-assignment MODEL                 the log goes to standard output
   producer.py never-below MODEL VARIABLE VALUE    the log goes to standard output
