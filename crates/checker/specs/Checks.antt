@@ -4,7 +4,6 @@ use mathlib.Core.Path.{_≡_, refl, sym, ap, ap₂, subst, _∙_, fun-ext}
 use mathlib.Core.Bool.{Bool, true, false}
 use mathlib.Core.List.{List, [], _∷_, _++_}
 use native.Mathlib.Omega.{arith}
-use borrow.Author.Tests.{lt-ltb, le-ltb}
 use lib.Dec.{ltb}
 use lib.Count as count
 use lib.IntN.{ℤ}
@@ -13,6 +12,7 @@ use Rattle.meaning.specs.Model.{Model}
 use Rattle.meaning.specs.Log.{Step, Fact, inference, deduction, noAssignment, neverBelow}
 use Rattle.meaning.specs.Check as says
 use Rattle.meaning.specs.Outcomes.{Told, ran-out, broke-off, word-off, faulty, trailing, concluded, went}
+use Rattle.meaning.specs.Proved.Classes.{early-is, late-is}
 use Rattle.meaning.specs.Proved.Faults.{fault-number}
 use Rattle.meaning.specs.Proved.Told.{over-told}
 use Rattle.model.specs.Planned.{modelOf}
@@ -62,7 +62,7 @@ told-late : {held : Step → Bool} {say : says.Conclusion → says.Answer} {m : 
 told-late h ran-out = refl
 told-late h (broke-off r e) = refl
 told-late h (word-off r lo hi) = refl
-told-late h (faulty {num = num} r i j f) = let n = fault-number f in le-ltb num 8 (omega arith)
+told-late h (faulty {num = num} r i j f) = let n = fault-number f in late-is num _ _ (omega arith)
 told-late h (trailing r v u) = refl
 told-late h (concluded {c = c} r v u) = h c
 told-late h (went r v u t) = told-late h t
@@ -73,7 +73,7 @@ said-late false c = refl
 
 -- refusals 1 to 7 report no row
 sized-early : (n num p : ℕ) → num ≤ 7 → says.sized n (says.shutEarly num p) ≡ record { outcome = says.shutEarly num p; size = 0 }
-sized-early n num p h = rw (lt-ltb num 8 (omega arith))
+sized-early n num p h = rw (early-is num 0 p (omega arith))
 
 sized-late : (held : Step → Bool) (w : Bool) (m : Model) (log : List ℤ) (n : ℕ) → says.sized n (says.over held (sayBy w) m log) ≡ record { outcome = says.over held (sayBy w) m log; size = n }
 sized-late held w m log n = rw (told-late (said-late w) (over-told held (sayBy w) m log))

@@ -7,6 +7,7 @@ use lib.Dec.{ltb, eqb}
 use lib.ListN.{length, getD}
 use lib.IntN.{ℤ, pos}
 use Rattle.meaning.specs.Limits.{mostModelWords, mostLogWords, fewestPlaces}
+use Rattle.meaning.specs.Refusals.{modelTooLong, logTooLong, placesTooFew, noConclusion, wordsAfterConclusion, Class, early, layout, judged, classOf}
 use Rattle.meaning.specs.Read.{Got, got, refused}
 use Rattle.meaning.specs.Model.{Model, Bounds, Row, readModel, rowWords}
 use Rattle.meaning.specs.Log.{atMost, Atom, Fact, Step, inference, deduction, noAssignment, neverBelow, step}
@@ -50,7 +51,7 @@ counted b s = record { facts = s .facts; starts = s .starts; judged = oneMore b 
 -- a conclusion that passed: with words after it, it counts as not passed
 abbrev pub ends : Answer → ℕ → ℕ → ℕ → State → List ℤ → Outcome
 ends a k at at' s [] = record { answer = a; starts = s .starts ++ (at ∷ []); judged = s .judged }
-ends a k at at' s (w ∷ ws) = shutAt 13 k at' s
+ends a k at at' s (w ∷ ws) = shutAt wordsAfterConclusion k at' s
 
 -- ---- one step
 
@@ -100,7 +101,7 @@ afterReading held say m k s at (refused num p) = stops (shutAt num k p s)
 afterReading held say m k s at (got t at' rest) = afterVerdict say k at at' rest (counted (held t) s) (turn t) (verdictOf (held t) m (s .facts) t)
 
 abbrev pub advance : (Step → Bool) → (Conclusion → Answer) → Model → ℕ → State → ℕ → List ℤ → Next
-advance held say m k s at [] = stops (shutAt 10 k at s)
+advance held say m k s at [] = stops (shutAt noConclusion k at s)
 advance held say m k s at (w ∷ ws) = afterReading held say m k s at (readStep m k at (w ∷ ws))
 
 abbrev pub onward : (State → ℕ → List ℤ → Outcome) → Next → Outcome
@@ -109,7 +110,7 @@ onward go (goes s at ws) = go s at ws
 
 -- from step k on; each step takes words, so as much fuel as there are words left is enough
 abbrev pub walk : (Step → Bool) → (Conclusion → Answer) → Model → ℕ → ℕ → State → ℕ → List ℤ → Outcome
-walk held say m zero k s at ws = shutAt 10 k at s
+walk held say m zero k s at ws = shutAt noConclusion k at s
 walk held say m (suc fuel) k s at ws = onward (walk held say m fuel (suc k)) (advance held say m k s at ws)
 
 abbrev pub start : State
@@ -125,9 +126,9 @@ shutEarly num p = record { answer = shut num 0 p; starts = []; judged = 0 }
 
 -- sizes first, then the model, then what is to be done with a good model
 abbrev pub admitted : Bool → Bool → Bool → Got Model → (Model → Outcome) → Outcome
-admitted true longLog fewPlaces g next = shutEarly 1 0
-admitted false true fewPlaces g next = shutEarly 2 0
-admitted false false true g next = shutEarly 3 0
+admitted true longLog fewPlaces g next = shutEarly modelTooLong 0
+admitted false true fewPlaces g next = shutEarly logTooLong 0
+admitted false false true g next = shutEarly placesTooFew 0
 admitted false false false (refused num p) next = shutEarly num p
 admitted false false false (got m at ws) next = next m
 
@@ -187,9 +188,15 @@ pub record Rechecked : Type 0 where
   pub outcome : Outcome
   pub size : ℕ  -- of the set of changed rows; in whole mode the number of rows
 
--- refusals 1 to 7 report 0 as the size; their count of judged steps is 0 as no step was read
+-- is the refusal given before any step is read
+abbrev pub beforeSteps : Class → Bool
+beforeSteps early = true
+beforeSteps layout = false
+beforeSteps judged = false
+
+-- these report 0 as the size; their count of judged steps is 0 as no step was read
 abbrev pub isEarly : Answer → Bool
-isEarly (shut num k p) = ltb num 8
+isEarly (shut num k p) = beforeSteps (classOf num)
 isEarly (accepted c) = false
 isEarly (carried c) = false
 

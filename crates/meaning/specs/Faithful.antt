@@ -18,20 +18,7 @@ use Rattle.meaning.specs.Rule.{leastSum, occurs, once, union, crowded, s
 use Rattle.meaning.specs.Judge.{rowAt, premisesHold, saysFalse, saysAtLeast}
 use Rattle.meaning.specs.Check.{changes, fitsOld}
 use Rattle.meaning.specs.Meets.{Between, boundsAt}
-
--- ---- the model table
-
-abbrev pub boundsWords : List Bounds → List ℤ
-boundsWords [] = []
-boundsWords (b ∷ bs) = b .low ∷ b .high ∷ boundsWords bs
-
-abbrev pub rowsWords : List Row → List ℤ
-rowsWords [] = []
-rowsWords (r ∷ rs) = rowWords r ++ rowsWords rs
-
--- V, the bounds, C, the rows
-abbrev pub modelWords : Model → List ℤ
-modelWords m = pos (length (m .bounds)) ∷ (boundsWords (m .bounds) ++ (pos (length (m .rows)) ∷ rowsWords (m .rows)))
+use Rattle.meaning.specs.Ranges.{rowTable}
 
 -- ---- the values left
 
@@ -162,12 +149,12 @@ pub record ConclusionSays : Type 0 where
 
 -- ---- the recheck: when the old model lends itself, and which rows are changed
 pub record RecheckSays : Type 0 where
+  -- what is compared are a row's words in the table, all of them
+  pub compared-is : (r : Row) → rowWords r ≡ rowTable r
   pub fits-is : (o n : Model) → (fitsOld o n ≡ true) ↔ ((o .bounds ≡ n .bounds) × (length (o .rows) ≡ length (n .rows)))
-  pub changed-is : (o n : Model) (r : ℕ) → r < length (o .rows) → r < length (n .rows) → (getD (changes (o .rows) (n .rows)) r false ≡ true) ↔ (rowWords (rowAt o r) ≡ rowWords (rowAt n r) → ⊥)
+  pub changed-is : (o n : Model) (r : ℕ) → r < length (o .rows) → r < length (n .rows) → (getD (changes (o .rows) (n .rows)) r false ≡ true) ↔ (rowTable (rowAt o r) ≡ rowTable (rowAt n r) → ⊥)
 
 pub record Faithful : Type 0 where
-  -- a good table is the words of the model that was read from it, nothing left out: a row's words are its words in the table
-  pub table : (model : List ℤ) {m : Model} {at : ℕ} {rest : List ℤ} → readModel 0 model ≡ got m at rest → model ≡ modelWords m
   pub box : (model : List ℤ) {m : Model} {at : ℕ} {rest : List ℤ} → readModel 0 model ≡ got m at rest → BoxSays (m .bounds)
   pub rule : (d : ℕ → List ℤ) → ((x : ℕ) → Rising (d x)) → RuleSays d
   -- a row of a good model, and a box none of whose sets is empty

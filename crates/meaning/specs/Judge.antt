@@ -8,6 +8,7 @@ use lib.ListN.{length, getD}
 use lib.IntN.{ℤ, pos}
 use lib.Signed.{leZ}
 use Rattle.words.specs.Lists.{all, isEmpty}
+use Rattle.meaning.specs.Refusals.{boxEmpty, rowDoesNotConflict, hintDoesNotApply, hintsUsedUp, factDoesNotFit}
 use Rattle.meaning.specs.Model.{Bounds, Row, Model, linear}
 use Rattle.meaning.specs.Log.{Relation, atLeast, atMost, equal, notEqual, Atom, Fact, Step, inference, deduction, noAssignment, neverBelow}
 use Rattle.meaning.specs.Box.{left, anyEmpty, boxOf, meets}
@@ -23,9 +24,9 @@ rowAt m r = getD (m .rows) r (linear (pos 0) [])
 
 -- is a set empty, does the row conflict: 20 comes before 21
 abbrev pub inferred : Bool → Bool → Verdict
-inferred true conflict = fails 20 0
+inferred true conflict = fails boxEmpty 0
 inferred false true = passes
-inferred false false = fails 21 0
+inferred false false = fails rowDoesNotConflict 0
 
 abbrev pub judgeInference : List Bounds → Row → Fact → Verdict
 judgeInference bs row f = inferred (anyEmpty bs (boxOf f) (length bs)) (conflicts f (left bs (boxOf f)) row)
@@ -42,18 +43,18 @@ unlessEmptied false box next = next box
 
 -- hint i: do the cited premises hold, and the cited consequent; `next` takes the later hints. A consequent narrows one set, so that one alone can become empty; what empties it ends the step
 abbrev pub takeHint : List Bounds → List Atom → ℕ → Bool → Option Atom → (List Atom → Verdict) → Verdict
-takeHint bs box i false c next = fails 22 i
+takeHint bs box i false c next = fails hintDoesNotApply i
 takeHint bs box i true none next = passes
 takeHint bs box i true (some c) next = unlessEmptied (isEmpty (left bs (c ∷ box) (c .variable))) (c ∷ box) next
 
 -- `facts`: those of the steps so far, by number
 abbrev pub followHints : List Bounds → (ℕ → Fact) → List Atom → ℕ → List ℕ → Verdict
-followHints bs facts box i [] = fails 23 0
+followHints bs facts box i [] = fails hintsUsedUp 0
 followHints bs facts box i (h ∷ hs) = takeHint bs box i (premisesHold bs box (facts h .premises)) (facts h .consequent) (λ narrower. followHints bs facts narrower (suc i) hs)
 
 -- is a set empty before any hint: 20 comes before 22 and 23, with no hint too
 abbrev pub deduced : Bool → Verdict → Verdict
-deduced true v = fails 20 0
+deduced true v = fails boxEmpty 0
 deduced false v = v
 
 abbrev pub judgeDeduction : List Bounds → (ℕ → Fact) → Fact → List ℕ → Verdict
@@ -62,7 +63,7 @@ judgeDeduction bs facts f hs = deduced (anyEmpty bs (boxOf f) (length bs)) (foll
 -- ---- a conclusion: the fact that it cites has no premises and says what is concluded
 abbrev pub fits24 : Bool → Verdict
 fits24 true = passes
-fits24 false = fails 24 0
+fits24 false = fails factDoesNotFit 0
 
 abbrev pub givesFalse : List Atom → Option Atom → Bool
 givesFalse [] none = true

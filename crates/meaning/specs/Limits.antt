@@ -1,4 +1,4 @@
--- Document 01's limits and the numbers of its refusals, each by one name. What pins them, Ranges, Layout and Verdicts, has the numbers themselves.
+-- Document 01's limits, each by one name. What pins them, Ranges, Layout and Verdicts, has the numbers themselves.
 use Prim.Native.Nat.{ℕ}
 
 -- ---- how large a table may be

@@ -4,6 +4,7 @@ use mathlib.Core.List.{List}
 use mathlib.Core.Option.{Option, none, some}
 use lib.IntN.{ℤ, pos}
 use Rattle.meaning.specs.Limits.{mostValue, mostPremises, mostHints}
+use Rattle.meaning.specs.Refusals.{logEndsInsideStep, logWordOutside}
 use Rattle.meaning.specs.Read.{Reader, _>>=_, give, refuse, neg, word, count, below, times}
 
 pub data Relation : Type 0 where
@@ -26,13 +27,13 @@ pub data Step : Type 0 where
 
 -- the log's words: 11 where it ends inside a step, 12 where a word is outside its range
 abbrev pub number : ℕ → ℕ → Reader ℕ
-number = count 11 12
+number = count logEndsInsideStep logWordOutside
 
 abbrev pub value : Reader ℤ
-value = word 11 12 (neg mostValue) (pos mostValue)
+value = word logEndsInsideStep logWordOutside (neg mostValue) (pos mostValue)
 
 abbrev pub numberBelow : ℕ → Reader ℕ
-numberBelow = below 11 12
+numberBelow = below logEndsInsideStep logWordOutside
 
 -- of a number that is 1 to 4
 abbrev pub relationOf : ℕ → Relation
@@ -65,7 +66,7 @@ fact v = do
 
 -- the rest of step k after its kind, with v variables and c rows: it cites only facts below k, and all of its words are read, hints behind the one that ends it included
 abbrev pub stepOfKind : ℕ → ℕ → ℕ → ℕ → Reader Step
-stepOfKind v c k zero = refuse 12
+stepOfKind v c k zero = refuse logWordOutside
 stepOfKind v c k (suc zero) = do
   r ← numberBelow c
   f ← fact v

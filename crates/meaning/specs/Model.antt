@@ -6,6 +6,7 @@ use lib.ListN.{length}
 use lib.Dec.{eqb}
 use lib.IntN.{ℤ, pos}
 use Rattle.meaning.specs.Limits.{mostVariables, mostRows, mostParts, mostValue, mostCoefficient, mostDuration, mostUsage}
+use Rattle.meaning.specs.Refusals.{modelEndsEarly, modelWordOutside, variableTwice, wordsAfterModel}
 use Rattle.meaning.specs.Read.{Reader, Got, got, refused, _>>=_, give, refuse, neg, word, count, below, times}
 use Rattle.words.specs.Lists.{member}
 
@@ -34,10 +35,10 @@ pub record Model : Type 0 where
 
 -- the model's words: 4 where it ends early, 5 where a word is outside its range
 abbrev pub number : ℕ → ℕ → Reader ℕ
-number = count 4 5
+number = count modelEndsEarly modelWordOutside
 
 abbrev pub integer : ℤ → ℤ → Reader ℤ
-integer = word 4 5
+integer = word modelEndsEarly modelWordOutside
 
 -- high is held against the low just read
 abbrev pub boundsPair : Reader Bounds
@@ -48,11 +49,11 @@ boundsPair = do
 
 -- the number of one of v variables
 abbrev pub variableOf : ℕ → Reader ℕ
-variableOf v = below 4 5 v
+variableOf v = below modelEndsEarly modelWordOutside v
 
 -- a variable that was seen: refused with 6 at its word, once the word is there and in range
 abbrev pub freshWord : List ℕ → ℕ → Got ℕ → Got ℕ
-freshWord seen at (got x at' ws) = elim (member eqb x seen) [ true ↦ refused 6 at | false ↦ got x at' ws ]
+freshWord seen at (got x at' ws) = elim (member eqb x seen) [ true ↦ refused variableTwice at | false ↦ got x at' ws ]
 freshWord seen at (refused num p) = refused num p
 
 abbrev pub fresh : ℕ → List ℕ → Reader ℕ
@@ -81,7 +82,7 @@ activity v = do
 
 -- the rest of a row after its kind, which is 1 to 4
 abbrev pub rowOfKind : ℕ → ℕ → Reader Row
-rowOfKind v zero = refuse 5
+rowOfKind v zero = refuse modelWordOutside
 rowOfKind v (suc zero) = do
   n ← number 1 mostParts
   b ← integer (neg 2147483648) (pos 2147483647)
@@ -109,7 +110,7 @@ row v = do
 -- nothing may follow
 abbrev pub end : Model → Reader Model
 end m at [] = got m at []
-end m at (w ∷ ws) = refused 7 at
+end m at (w ∷ ws) = refused wordsAfterModel at
 
 abbrev pub readModel : Reader Model
 readModel = do

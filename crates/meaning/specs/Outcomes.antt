@@ -3,9 +3,9 @@ use Prim.Native.Nat.{ℕ, suc, _+_, _≤_, _<_}
 use mathlib.Core.Path.{_≡_}
 use mathlib.Core.Bool.{Bool, true, false}
 use mathlib.Core.List.{List, [], _∷_, _++_}
-use lib.Dec.{ltb}
 use lib.ListN.{length, getD}
 use lib.IntN.{ℤ}
+use Rattle.meaning.specs.Refusals.{Class, early, layout, judged, classOf}
 use Rattle.meaning.specs.Read.{got, refused}
 use Rattle.meaning.specs.Model.{Model}
 use Rattle.meaning.specs.Log.{Fact, Step, inference, deduction, noAssignment, neverBelow}
@@ -56,8 +56,13 @@ pub record Facts (model log places : ℕ) (o : Outcome) : Type 0 where
   pub early : OnShut (λ num k p. num ≤ 7 → (o .starts ≡ []) × (o .judged ≡ 0)) (o .answer)
 
 -- 1 where the answer refuses a step that was read well
+abbrev pub ofRead : Class → ℕ
+ofRead early = 0
+ofRead layout = 0
+ofRead judged = 1
+
 abbrev pub late : Answer → ℕ
-late (shut num k p) = elim (ltb 12 num) [ true ↦ 1 | false ↦ 0 ]
+late (shut num k p) = ofRead (classOf num)
 late (accepted c) = 0
 late (carried c) = 0
 

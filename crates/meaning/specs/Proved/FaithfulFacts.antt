@@ -1,10 +1,10 @@
 -- `Faithful`: the laws of the box and of the rows brought together, and those of the conclusions and of the recheck.
 use Prim.Native.Nat.{ℕ, zero, suc, _<_}
 use native.Mathlib.Omega.{arith}
-use mathlib.Core.Path.{_≡_, refl, sym, ap, subst, _∙_}
+use mathlib.Core.Path.{_≡_, refl, sym, ap, ap₂, subst, _∙_}
 use mathlib.Core.Bool.{true, false, not, _&&_}
 use mathlib.Core.Logic.{⊎-elim}
-use mathlib.Core.List.{List, [], _∷_}
+use mathlib.Core.List.{List, [], _∷_, _++_}
 use mathlib.Core.Option.{Option, none, some}
 use lib.Dec.{eqb}
 use lib.ListN.{length, getD}
@@ -13,14 +13,14 @@ use lib.Signed.{_≤ℤ_, leZ}
 use borrow.Author.Tests.{eqb-true, eq-eqb, not-true}
 use Rattle.words.specs.Int.{eqZ, eqZ-refl}
 use Rattle.words.specs.ListFacts.{clash, tested, and-true, and-both, le-of, of-le, each-at}
-use Rattle.meaning.specs.Model.{Bounds, Row, linear, Model, rowWords}
+use Rattle.meaning.specs.Model.{Bounds, Term, Activity, Row, linear, allDifferent, cumulative, circuit, Model, termWords, variableWords, activityWords, rowWords}
 use Rattle.meaning.specs.Log.{Relation, atMost, atLeast, equal, notEqual, Atom}
 use Rattle.meaning.specs.Box.{left}
 use Rattle.meaning.specs.Judge.{rowAt, isAtLeast, givesFalse, givesAtLeast}
 use Rattle.meaning.specs.Check.{sameWords, sameBounds, changes, fitsOld}
 use Rattle.meaning.specs.Faithful.{RecheckSays, Faithful}
+use Rattle.meaning.specs.Ranges.{each, numberTable, termTable, activityTable, rowTable}
 use Rattle.meaning.specs.Proved.ReadModel.{known-model}
-use Rattle.meaning.specs.Proved.Spelled.{good-spelled}
 use Rattle.meaning.specs.Proved.BoxFacts.{left-rising}
 use Rattle.meaning.specs.Proved.SameRows.{sameWords-same, sameBounds-same}
 use Rattle.meaning.specs.Proved.BoxSays.{box-says, some-left}
@@ -58,7 +58,25 @@ floor-of x v [] (some c) h =
 of-floor : (x : ℕ) (v : ℤ) (ps : List Atom) (o : Option Atom) → (ps ≡ []) × ((w : ℤ) × (o ≡ some (floor x w)) × (v ≤ℤ w)) → givesAtLeast x v ps o ≡ true
 of-floor x v ps o (e, (w, q, l)) = rw (e, q) (and-both (eqb x x) (leZ v w) (eq-eqb x x refl) (of-le l))
 
--- ---- the recheck
+-- ---- the recheck: a row's words, as it compares them and as they stand in the table
+terms-compared : (ts : List Term) → termWords ts ≡ each termTable ts
+terms-compared [] = refl
+terms-compared (t ∷ ts) = ap (λ ws. termTable t ++ ws) (terms-compared ts)
+
+variables-compared : (xs : List ℕ) → variableWords xs ≡ each numberTable xs
+variables-compared [] = refl
+variables-compared (x ∷ xs) = ap (λ ws. pos x ∷ ws) (variables-compared xs)
+
+activities-compared : (js : List Activity) → activityWords js ≡ each activityTable js
+activities-compared [] = refl
+activities-compared (j ∷ js) = ap (λ ws. activityTable j ++ ws) (activities-compared js)
+
+row-compared : (r : Row) → rowWords r ≡ rowTable r
+row-compared (linear b ts) = ap (λ ws. pos 1 ∷ pos (length ts) ∷ b ∷ ws) (terms-compared ts)
+row-compared (allDifferent xs) = ap (λ ws. pos 2 ∷ pos (length xs) ∷ ws) (variables-compared xs)
+row-compared (cumulative c js) = ap (λ ws. pos 3 ∷ pos (length js) ∷ pos c ∷ ws) (activities-compared js)
+row-compared (circuit xs) = ap (λ ws. pos 4 ∷ pos (length xs) ∷ ws) (variables-compared xs)
+
 words-same : (ws : List ℤ) → sameWords ws ws ≡ true
 words-same [] = refl
 words-same (w ∷ ws) = and-both (eqZ w w) (sameWords ws ws) (eqZ-refl w) (words-same ws)
@@ -75,10 +93,10 @@ of-fits o n (b, l) =
     and-both (sameBounds (o .bounds) (n .bounds)) (eqb (length (o .rows)) (length (n .rows))) (subst (λ bs. sameBounds (o .bounds) bs ≡ true) b (bounds-same (o .bounds)))
     (eq-eqb (length (o .rows)) (length (n .rows)) l)
 
-changed-at : (d : Row) (ps qs : List Row) (r : ℕ) → r < length ps → r < length qs → getD (changes ps qs) r false ≡ not (sameWords (rowWords (getD ps r d)) (rowWords (getD qs r d)))
+changed-at : (d : Row) (ps qs : List Row) (r : ℕ) → r < length ps → r < length qs → getD (changes ps qs) r false ≡ not (sameWords (rowTable (getD ps r d)) (rowTable (getD qs r d)))
 changed-at d [] qs r l k = absurd (omega arith)
 changed-at d (p ∷ ps) [] r l k = absurd (omega arith)
-changed-at d (p ∷ ps) (q ∷ qs) zero l k = refl
+changed-at d (p ∷ ps) (q ∷ qs) zero l k = ap₂ (λ us ws. not (sameWords us ws)) (row-compared p) (row-compared q)
 changed-at d (p ∷ ps) (q ∷ qs) (suc r) l k = changed-at d ps qs r (omega arith) (omega arith)
 
 differ-of : (as′ bs : List ℤ) → not (sameWords as′ bs) ≡ true → as′ ≡ bs → ⊥
@@ -89,6 +107,7 @@ of-differ as′ bs h = ⊎-elim (λ e. absurd (h (sameWords-same as′ bs e))) (
 
 recheck-says : RecheckSays
 recheck-says = record {
+  compared-is = row-compared;
   fits-is = λ o n. (fits-of o n, of-fits o n);
   changed-is = λ o n r l k.
       let e = changed-at (linear (pos 0) []) (o .rows) (n .rows) r l k in
@@ -97,7 +116,6 @@ recheck-says = record {
 
 pub faithful : Faithful
 faithful = record {
-  table = good-spelled;
   box = λ model e. box-says _ (known-model model e .bounds-known);
   rule = rule-says;
   conflict = λ model {m} e f box h r l.

@@ -16,10 +16,11 @@ use Rattle.meaning.specs.Claims.{CheckTells}
 use Rattle.meaning.specs.Proved.Guard.{Fits, guarded-good, good-short, Barred, long-model, long-log, few-places, bad-model, guarded-cases, good-read}
 use Rattle.meaning.specs.Proved.Reading.{Fair, short, off}
 use Rattle.meaning.specs.Proved.ReadStep.{step-left}
+use Rattle.meaning.specs.Proved.Classes.{early-unread}
 use Rattle.meaning.specs.Proved.Faults.{fault-number}
 use Rattle.meaning.specs.Proved.ReadModel.{KnownModel, reads-model}
 use Rattle.words.specs.ListFacts.{climbs-apart, climbs-within}
-use Rattle.meaning.specs.Proved.Told.{over-told, on-each, late-none, told-few, told-step, told-judged, Spoken, shut-so, told-spoken, told-climbs}
+use Rattle.meaning.specs.Proved.Told.{over-told, on-each, told-few, told-step, told-judged, Spoken, shut-so, told-spoken, told-climbs}
 
 module _ (held : Step → Bool) (say : Conclusion → Answer) (m : Model) (model places : ℕ) (apart : (P : ℕ → ℕ → ℕ → Type 0) (c : Conclusion) → OnShut P (say c)) where
   told-listed : {k at j n : ℕ} {fs : List Fact} {ws : List ℤ} {l : List ℕ} {a : Answer} → at + length ws ≡ n → Told held say m k at fs ws l j a → OnShut (Listed model n places) a
@@ -97,7 +98,7 @@ check-spoken model log places = guarded-spoken (λ m t. true) accepted model log
 pub check-judged : (model log : List ℤ) (places : ℕ) → let o : Outcome = check model log places in o .judged ≡ length (o .starts) + late (o .answer)
 check-judged model log places =
     guarded-cases (λ o. o .judged ≡ length (o .starts) + late (o .answer)) model log places _
-    (λ num p h. let s : num ≤ 7 = barred-early h .small in let e = late-none num 0 p (omega arith) in omega arith)
+    (λ num p h. let s : num ≤ 7 = barred-early h .small in let e = early-unread num 0 p (omega arith) in omega arith)
     (λ m l. told-judged (over-told (λ t. true) accepted m log))
 
 -- ---- with a good model and tables of the right sizes

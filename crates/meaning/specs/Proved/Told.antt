@@ -8,16 +8,16 @@ use native.Mathlib.Numerals.{add-one}
 use native.Mathlib.Nat.{le-refl, zero-add}
 use lib.ListN.{length}
 use lib.IntN.{ℤ}
-use borrow.Author.Tests.{lt-ltb, le-ltb}
 use Rattle.meaning.specs.Read.{got, refused}
 use Rattle.meaning.specs.Model.{Model}
 use Rattle.meaning.specs.Log.{Fact, Step}
 use Rattle.meaning.specs.Judge.{fails}
 use Rattle.meaning.specs.Check.{factAt, Answer, shut, accepted, carried, Conclusion, Outcome, State, oneMore, verdictOf, readStep, start, over}
 use Rattle.meaning.specs.Outcomes.{Fault, OnShut, late, Told, ran-out, broke-off, word-off, faulty, trailing, concluded, went}
+use Rattle.meaning.specs.Proved.Classes.{fault-read}
 use Rattle.meaning.specs.Proved.Reading.{Fair, short, off}
 use Rattle.meaning.specs.Proved.ReadStep.{StepRead, reads-step, step-left, fewest-some, makes-four}
-use Rattle.meaning.specs.Proved.Faults.{fault, fault-number}
+use Rattle.meaning.specs.Proved.Faults.{fault}
 use Rattle.meaning.specs.Proved.Walked.{Walked, cut, unread, failed, made, ended, trailed, walked}
 use Rattle.words.specs.ListFacts.{Climbs, nil, next, climbs-from}
 
@@ -84,18 +84,12 @@ on-each P Q (shut num k p) f h = f num k p h
 on-each P Q (accepted c) f h = tt
 on-each P Q (carried c) f h = tt
 
-late-fault : {t : Step} {num p : ℕ} (k : ℕ) → Fault t num p → late (shut num k p) ≡ 1
-late-fault {num = num} k f = let h = fault-number f in ap (λ b. elim b [ true ↦ 1 | false ↦ 0 ]) (lt-ltb 12 num (omega arith))
-
-pub late-none : (num k p : ℕ) → num ≤ 12 → late (shut num k p) ≡ 0
-late-none num k p l = ap (λ b. elim b [ true ↦ 1 | false ↦ 0 ]) (le-ltb 12 num l)
-
 -- the whole check judges each step that it reads well
 pub told-judged : {m : Model} {k at j : ℕ} {fs : List Fact} {ws : List ℤ} {l : List ℕ} {a : Answer} → Told (λ t. true) accepted m k at fs ws l j a → j ≡ length l + late a
 told-judged ran-out = refl
 told-judged (broke-off r e) = refl
 told-judged (word-off r lo hi) = refl
-told-judged (faulty {k} r h v f) = let e = late-fault k f in omega arith
+told-judged (faulty {k} r h v f) = let e = fault-read k f in omega arith
 told-judged (trailing r v u) = refl
 told-judged (concluded r v u) = refl
 told-judged (went r v u w) = let h = told-judged w in omega arith
