@@ -14,7 +14,7 @@ use Rattle.meaning.specs.Read.{got}
 use Rattle.meaning.specs.Model.{Bounds, Term, Activity, Row, linear, allDifferent, cumulative, circuit, Model, readModel, rowWords}
 use Rattle.meaning.specs.Log.{Relation, atMost, atLeast, equal, notEqual, Atom, Fact}
 use Rattle.meaning.specs.Box.{left, boxOf, anyEmpty}
-use Rattle.meaning.specs.Rule.{leastSum, occurs, once, union, crowded, surely, sure, overloaded, squeezed, trapped, conflicts}
+use Rattle.meaning.specs.Rule.{leastSum, occurs, once, union, crowded, sure, overloaded, squeezed, trapped, conflicts}
 use Rattle.meaning.specs.Judge.{rowAt, premisesHold, saysFalse, saysAtLeast}
 use Rattle.meaning.specs.Check.{changes, fitsOld}
 use Rattle.meaning.specs.Meets.{Between, boundsAt}
@@ -85,6 +85,12 @@ Lies p q t = (p ≤ℤ t) × (t <ℤ q)
 abbrev pub RunsSurely : (ℕ → List ℤ) → ℤ → Activity → Type 0
 RunsSurely d t j = Lies (largest (d (j .start))) (least (d (j .start)) +ℤ pos (j .duration)) t
 
+-- the sure usages at t come to this: of each activity its usage where it surely runs then, and nothing where it does not
+pub data Uses (d : ℕ → List ℤ) (t : ℤ) : List Activity → ℕ → Type 0 where
+  no-activity : Uses d t [] 0
+  runs : {j : Activity} {js : List Activity} {n : ℕ} → RunsSurely d t j → Uses d t js n → Uses d t (j ∷ js) (j .usage + n)
+  rests : {j : Activity} {js : List Activity} {n : ℕ} → (RunsSurely d t j → ⊥) → Uses d t js n → Uses d t (j ∷ js) n
+
 -- at some whole time whatever the sure usages exceed the capacity c
 abbrev pub Overload : (ℕ → List ℤ) → ℕ → List Activity → Type 0
 Overload d c acts = (t : ℤ) × (c < sure d t acts)
@@ -135,8 +141,7 @@ pub record RuleSays (d : ℕ → List ℤ) : Type 0 where
   -- the union counts each value once, whatever list it is written as
   pub union-is : (xs : List ℕ) → Union d xs (once (union d xs))
   pub crowded-is : (xs : List ℕ) (us : List ℤ) → Union d xs us → (crowded d xs ≡ true) ↔ (length us < length xs)
-  pub surely-runs : (t : ℤ) (j : Activity) → RunsSurely d t j → surely d t j ≡ j .usage
-  pub surely-not : (t : ℤ) (j : Activity) → (RunsSurely d t j → ⊥) → surely d t j ≡ 0
+  pub sure-is : (t : ℤ) (acts : List Activity) → Uses d t acts (sure d t acts)
   pub overloaded-is : (c : ℕ) (acts : List Activity) → (overloaded d c acts ≡ true) ↔ Overload d c acts
   pub squeezed-is : (c : ℕ) (acts : List Activity) → (squeezed d c [] acts ≡ true) ↔ Squeeze d c acts
   pub trapped-is : (xs : List ℕ) → (trapped d xs ≡ true) ↔ ((S : ℕ → Bool) × Closed d xs S)

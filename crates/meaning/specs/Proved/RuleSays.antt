@@ -1,6 +1,7 @@
 -- The laws of `RuleSays`: each row's test says what document 01 says, over every sum, every list of a union's values, every whole time and every set of positions.
 use Prim.Native.Nat.{ℕ, zero, suc, _+_, _<_, _≤_}
 use native.Mathlib.Omega.{arith}
+use native.Mathlib.Nat.{zero-add}
 use mathlib.Core.Path.{_≡_, refl, sym, ap, subst, _∙_}
 use mathlib.Core.Bool.{Bool, true, false, not, _||_}
 use mathlib.Core.Logic.{_↔_, _⊎_, inl, inr, ⊎-elim}
@@ -16,8 +17,8 @@ use Rattle.words.specs.Lists.{member, keep, isEmpty, largest, All, empty, also}
 use Rattle.words.specs.ListFacts.{clash, choose, any-found, any-holds, all-at, all-by, in-member, each-of, each-map, or-cases, or-left, or-right, lt-of, of-lt, Rising, least-in, largest-in}
 use Rattle.meaning.specs.Model.{Term, Activity, Row, linear, allDifferent, cumulative, circuit}
 use Rattle.meaning.specs.Log.{Atom, Fact}
-use Rattle.meaning.specs.Rule.{leastTerm, leastSum, optional, occurs, once, union, crowded, surely, overloaded, blockedFrom, squeezed, holds, inside, trapped, conflicts}
-use Rattle.meaning.specs.Faithful.{Sums, no-term, one-term, Occurs, Union, RunsSurely, noActivity, activityIn, allBut, SqueezedAt, Squeeze, Stays, in-set, below-all, above-all, Closed, Conflicts, RuleSays}
+use Rattle.meaning.specs.Rule.{leastTerm, leastSum, optional, occurs, once, union, crowded, sure, overloaded, blockedFrom, squeezed, holds, inside, trapped, conflicts}
+use Rattle.meaning.specs.Faithful.{Sums, no-term, one-term, Occurs, Union, RunsSurely, Uses, no-activity, runs, rests, noActivity, activityIn, allBut, SqueezedAt, Squeeze, Stays, in-set, below-all, above-all, Closed, Conflicts, RuleSays}
 use Rattle.meaning.specs.Proved.Below.{some-found, some-holds}
 use Rattle.meaning.specs.Proved.ReadModel.{KnownRow}
 use Rattle.meaning.specs.Proved.Pigeons.{Apart, apart-of, apart-at, pigeonhole}
@@ -107,8 +108,12 @@ module _ (d : ℕ → List ℤ) (xs : List ℕ) where
       (λ h. omega (arith, ltb-true (length ws) (length xs) h), λ h. lt-ltb (length ws) (length xs) (omega arith))
 
 -- ---- cumulative
-surely-nothing : (d : ℕ → List ℤ) (t : ℤ) (j : Activity) → (RunsSurely d t j → ⊥) → surely d t j ≡ 0
-surely-nothing d t j h = ⊎-elim (λ s. absurd (h (s .from, s .until))) (λ n. n .1) (surely-is d t j)
+uses : (d : ℕ → List ℤ) (t : ℤ) (js : List Activity) → Uses d t js (sure d t js)
+uses d t [] = no-activity
+uses d t (j ∷ js) =
+    ⊎-elim (λ s. subst (λ n. Uses d t (j ∷ js) (n + sure d t js)) (sym (surely-yes d t j s)) (runs (s .from, s .until) (uses d t js)))
+    (λ n. subst (λ z. Uses d t (j ∷ js) (z + sure d t js)) (sym (n .1)) (rests (λ h. n .0 (record { from = h .0; until = h .1 })) (subst (Uses d t js) (sym (zero-add (sure d t js))) (uses d t js))))
+    (surely-is d t j)
 
 module _ (d : ℕ → List ℤ) (c : ℕ) (acts : List Activity) where
   squeeze-at : (p : ℕ) → squeezedAt d c noActivity acts p ≡ true → SqueezedAt d c acts p
@@ -183,8 +188,7 @@ rule-says d rising = record {
   occurs-is = λ f x. (occurs-of f x, of-occurs f x);
   union-is = once-union d;
   crowded-is = crowded-by d;
-  surely-runs = λ t j h. surely-yes d t j (record { from = h .0; until = h .1 });
-  surely-not = surely-nothing d;
+  sure-is = uses d;
   overloaded-is = λ c acts. (overload-of d c acts, λ h. overloaded-by d rising c acts (h .0) (h .1));
   squeezed-is = squeezes d;
   trapped-is = λ xs. (closed-of d xs, λ h. of-closed d xs (h .0) (h .1));

@@ -33,7 +33,7 @@ one-more true i j = omega arith
 one-more false i j = refl
 
 module _ {held : Step → Bool} {say : Conclusion → Answer} {m : Model} where
-  tell-unread : (fs : List Fact) {k at num p : ℕ} {w : ℤ} {ws : List ℤ} → readStep m k at (w ∷ ws) ≡ refused num p → Told held say m k at fs (w ∷ ws) [] 0 (shut num k p)
+  pub tell-unread : (fs : List Fact) {k at num p : ℕ} {w : ℤ} {ws : List ℤ} → readStep m k at (w ∷ ws) ≡ refused num p → Told held say m k at fs (w ∷ ws) [] 0 (shut num k p)
   tell-unread fs {k} {at} {num} {p} {w} {ws} e = go (subst (Fair 11 (λ num. num ≡ 12) (StepRead (length (m .bounds)) (length (m .rows)) k) at (w ∷ ws)) e (reads-step _ _ k at (w ∷ ws))) e
     where
       go : {num p : ℕ} → Fair 11 (λ num. num ≡ 12) (StepRead (length (m .bounds)) (length (m .rows)) k) at (w ∷ ws) (refused num p) → readStep m k at (w ∷ ws) ≡ refused num p
