@@ -62,7 +62,7 @@ told-late : {held : Step → Bool} {say : says.Conclusion → says.Answer} {m : 
 told-late h ran-out = refl
 told-late h (broke-off r e) = refl
 told-late h (word-off r lo hi) = refl
-told-late h (faulty {num = num} r i j f) = let n = fault-number f in late-is num _ _ (omega arith)
+told-late h (faulty {num = num} r i j f) = let n = fault-number f in late-is num 0 0 (omega arith)
 told-late h (trailing r v u) = refl
 told-late h (concluded {c = c} r v u) = h c
 told-late h (went r v u t) = told-late h t

@@ -29,6 +29,23 @@ pub record Outcome : Type 0 where
   pub starts : List ℕ  -- the first words of the steps passed
   pub judged : ℕ  -- how many steps were held against their rule
 
+-- what a recheck answers
+pub record Rechecked : Type 0 where
+  pub outcome : Outcome
+  pub size : ℕ  -- of the set of changed rows; in whole mode the number of rows
+
+-- a passed step makes a fact or ends the log
+pub data Turn : Type 0 where
+  makes : Fact → Turn
+  concludes : Conclusion → Turn
+
+-- a model that 1 and 4 to 7 do not refuse
+pub data Good : Type 0 where
+  good : Model → Good
+  bad : Good
+
+-- ---- the walk
+
 -- what is known between two steps
 pub record State : Type 0 where
   pub facts : List Fact
@@ -54,11 +71,6 @@ ends a k at at' s [] = record { answer = a; starts = s .starts ++ (at ∷ []); j
 ends a k at at' s (w ∷ ws) = shutAt wordsAfterConclusion k at' s
 
 -- ---- one step
-
--- a passed step makes a fact or ends the log
-pub data Turn : Type 0 where
-  makes : Fact → Turn
-  concludes : Conclusion → Turn
 
 abbrev pub turn : Step → Turn
 turn (inference r f) = makes f
@@ -141,11 +153,6 @@ check model log places = guarded model log places (λ m. over (λ t. true) accep
 
 -- ---- the recheck
 
--- a model that 1 and 4 to 7 do not refuse
-pub data Good : Type 0 where
-  good : Model → Good
-  bad : Good
-
 abbrev pub goodOf : Bool → Got Model → Good
 goodOf true g = bad
 goodOf false (refused num p) = bad
@@ -183,10 +190,6 @@ citesChanged ch (inference r f) = getD ch r false
 citesChanged ch (deduction f hs) = false
 citesChanged ch (noAssignment n) = false
 citesChanged ch (neverBelow x v n) = false
-
-pub record Rechecked : Type 0 where
-  pub outcome : Outcome
-  pub size : ℕ  -- of the set of changed rows; in whole mode the number of rows
 
 -- is the refusal given before any step is read
 abbrev pub beforeSteps : Class → Bool

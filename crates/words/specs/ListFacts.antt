@@ -232,10 +232,6 @@ module _ {A : Type 0} where
   sum-le f g [] h = omega arith
   sum-le f g (x ∷ xs) h = omega (arith, h x (here refl), sum-le f g xs (λ y m. h y (there m)))
 
-  pub sum-lt : (f g : A → ℕ) {xs : List A} {x : A} → ((y : A) → In y xs → f y ≤ g y) → In x xs → f x < g x → sumOf f xs < sumOf g xs
-  sum-lt f g h (here {xs} e) l = omega (arith, subst (λ z. f z < g z) e l, sum-le f g xs (λ z m. h z (there m)))
-  sum-lt f g h (there {x = y} m) l = omega (arith, h y (here refl), sum-lt f g (λ z n. h z (there n)) m l)
-
   -- one part moves to the front
   pub sum-part : (f : A → ℕ) (l : List A) (x : A) (r : List A) → sumOf f (l ++ x ∷ r) ≡ f x + sumOf f (l ++ r)
   sum-part f [] x r = refl

@@ -34,7 +34,6 @@ KnownConsequent v (some a) = Known v a
 pub record KnownFact (v : ℕ) (f : Fact) : Type 0 where
   pub premises-known : All (Known v) (f .premises)
   pub consequent-known : KnownConsequent v (f .consequent)
-  pub few-premises : length (f .premises) ≤ 16
 
 reads-consequent : (v q : ℕ) → ReadsLog (λ c n. KnownConsequent v c) (consequentOf v q)
 reads-consequent v zero = reads-give tt
@@ -46,7 +45,7 @@ reads-fact v =
     reads-bind (reads-times (Known v) (λ a n h. h .0) p (reads-atom v)) λ ps j l.
     reads-bind (reads-count 12 0 1 refl) λ q o h.
     reads-bind (reads-consequent v q) λ c u w.
-    reads-give (record { premises-known = l .1; consequent-known = w; few-premises = omega arith }, omega arith)
+    reads-give (record { premises-known = l .1; consequent-known = w }, omega arith)
 
 -- the fewest words of such a step
 abbrev pub fewest : Step → ℕ

@@ -8,12 +8,11 @@ use native.Mathlib.Omega.{arith}
 use lib.Dec.{ltb}
 use lib.ListN.{length, getD}
 use lib.IntN.{ℤ, pos, negsuc}
-use borrow.Author.Tests.{ltb-true, not-true}
+use borrow.Author.Tests.{ltb-true}
 use Rattle.words.specs.Int.{eqZ}
 use Rattle.words.specs.Lists.{any, all, member}
-use Rattle.words.specs.ListFacts.{clash, tested, same-test, and-both, getD-in, any-holds, all-by, map-in, member-in, in-member}
+use Rattle.words.specs.ListFacts.{clash, tested, and-both, getD-in, any-holds, all-by, map-in, member-in, in-member}
 use Rattle.meaning.specs.Rule.{sets, holds, inside, closed, proper, trapped}
-use Rattle.meaning.specs.Proved.Below.{someBelow, some-found, some-holds}
 use Rattle.meaning.specs.Proved.Flags.{all-set, not-all-set}
 use Rattle.meaning.specs.Proved.Tour.{Trap, trap-of, inside-at}
 use Rattle.meaning.specs.Proved.Reach.{reach, reach-length, reach-self, reach-kept, reach-least}
@@ -88,9 +87,3 @@ module _ (d : ℕ → List ℤ) (xs : List ℕ) where
           let (j, g, f) = t .outsider in
           clash (reach-least (names d xs) n i l s (λ p k b c q o. inside-at n s k c (t .kept p b q (pos k) (member-in (pos k) (d (getD xs p 0)) o))) e j
           (all-set (reach (names d xs) n i) r j (omega (arith, reach-length (names d xs) n i l)))) f
-
-  -- the rule as one test
-  pub trapped-is-unreached : trapped d xs ≡ someBelow (λ i. not (reachesAll i)) (length xs)
-  trapped-is-unreached = same-test (trapped d xs) (someBelow (λ i. not (reachesAll i)) (length xs))
-      (λ h. let (i, l, e) = trapped-from h in some-holds (λ i. not (reachesAll i)) (length xs) i l (ap not e))
-      (λ h. let (i, l, e) = some-found (λ i. not (reachesAll i)) (length xs) h in trapped-if i l (not-true (reachesAll i) e))
