@@ -1,6 +1,6 @@
 -- What a box answers is what the meaning asks of the values left.
-use mathlib.Core.Path.{_≡_, refl, ap, ap₂, _∙_, fun-ext}
-use mathlib.Core.Bool.{Bool, false, _||_}
+use mathlib.Core.Path.{_≡_, ap, ap₂, _∙_, fun-ext}
+use mathlib.Core.Bool.{Bool, false}
 use mathlib.Core.List.{List, List·Memᴰ as In}
 use mathlib.Core.Logic.{⊎-elim}
 use Prim.Native.Nat.{ℕ, zero, suc, _≤_, _<_}
@@ -11,7 +11,6 @@ use lib.Signed.{_≤ℤ_}
 use Rattle.words.specs.Int.{eqZ}
 use Rattle.words.specs.Lists.{all, member, isEmpty, least, largest, All}
 use Rattle.words.specs.ListFacts.{or-none}
-use Rattle.domain.specs.Sets.{someEmpty}
 use Rattle.domain.specs.Box.{variables, values, stands}
 use Rattle.meaning.specs.Model.{Bounds}
 use Rattle.meaning.specs.Log.{relationOf, Atom}
@@ -43,13 +42,6 @@ module _ (cells : List ℤ) (bs : List Bounds) (atoms : List Atom) (agrees : Agr
   holds-left x r a h k = ap₂ (λ (p : ℤ → Bool) vs. all p vs) (fun-ext (λ v. stands-meets r a v h k)) (values-left x)
 
   -- ---- the sets of all variables
-  some-empty : (n : ℕ) → someEmpty (values cells) n ≡ anyEmpty bs atoms n
-  some-empty zero = refl
-  some-empty (suc n) = ap₂ (λ s t. s || t) (empty-left n) (some-empty n)
-
-  pub some-empty-left : someEmpty (values cells) (variables cells) ≡ anyEmpty bs atoms (length bs)
-  some-empty-left = ap (someEmpty (values cells)) (agrees .counted) ∙ some-empty (length bs)
-
   none-empty : (n x : ℕ) → anyEmpty bs atoms n ≡ false → x < n → isEmpty (left bs atoms x) ≡ false
   none-empty zero x e h = absurd (omega arith)
   none-empty (suc n) x e h =

@@ -1,6 +1,6 @@
 // The box of a fact: the declared bounds, narrowed by every premise and by the negated consequent.
 use domain;
-use reading;
+use rules::variable_at;
 use steps::FactPlace;
 ghost use mathlib.Core.Path.{_≡_};
 ghost use mathlib.Core.Bool.{_||_};
@@ -17,7 +17,7 @@ pub fn narrow_atom(log: &[i32], at: usize, cells: &mut [i32])
     requires { ⌜ AtomIn (variables (now cells)) (now log) at × Formed (now cells) × Room (now cells) 1 ⌝ }
     ensures { λ r. ⌜ now (cells .exit) ≡ narrowedAt (now (log .entry)) at (now (cells .entry)) ⌝ }
 {
-    let x = reading::number_at(log, at);
+    let x = variable_at(log, at);
     let relation = log[at + 1];
     let value = log[at + 2];
     domain::narrow(&mut *cells, x, relation, value);
@@ -28,7 +28,7 @@ fn narrow_negated(log: &[i32], at: usize, cells: &mut [i32])
     requires { ⌜ AtomIn (variables (now cells)) (now log) at × Formed (now cells) × Room (now cells) 1 ⌝ }
     ensures { λ r. ⌜ now (cells .exit) ≡ narrowedNot (now (log .entry)) at (now (cells .entry)) ⌝ }
 {
-    let x = reading::number_at(log, at);
+    let x = variable_at(log, at);
     let relation = log[at + 1];
     let value = log[at + 2];
     domain::narrow_not(&mut *cells, x, relation, value);
@@ -71,7 +71,7 @@ pub fn is_empty_at(log: &[i32], at: usize, cells: &[i32]) -> bool
     requires { ⌜ AtomIn (variables (now cells)) (now log) at × Formed (now cells) ⌝ }
     ensures { λ r. ⌜ r ≡ emptyAt (now (log .entry)) at (now (cells .entry)) ⌝ }
 {
-    let x = reading::number_at(log, at);
+    let x = variable_at(log, at);
     domain::is_empty(cells, x)
 }
 
@@ -115,7 +115,7 @@ pub fn holds_at(log: &[i32], at: usize, cells: &[i32]) -> bool
     requires { ⌜ AtomIn (variables (now cells)) (now log) at × Formed (now cells) ⌝ }
     ensures { λ r. ⌜ r ≡ all (stands (intAt (now (log .entry)) (at + 1)) (intAt (now (log .entry)) (at + 2))) (values (now (cells .entry)) (natAt (now (log .entry)) at)) ⌝ }
 {
-    let x = reading::number_at(log, at);
+    let x = variable_at(log, at);
     let relation = log[at + 1];
     let value = log[at + 2];
     domain::holds(cells, x, relation, value)

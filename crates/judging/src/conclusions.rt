@@ -36,13 +36,14 @@ fn says_false(fact: FactPlace, log: &[i32]) -> bool
 }
 
 // Does the atom at a position say that x is at least some number not below `value`?
-fn is_at_least(log: &[i32], at: usize, v: usize, x: usize, value: i32) -> bool
+fn is_at_least(log: &[i32], at: usize, v: usize, x: VarNo, value: i32) -> bool
     requires { ⌜ AtomIn v (now log) at ⌝ }
-    ensures { λ r. ⌜ r ≡ givesAtLeast x value [] (some (atomAt (now (log .entry)) at)) ⌝ }
+    ensures { λ r. ⌜ r ≡ givesAtLeast (x .0) value [] (some (atomAt (now (log .entry)) at)) ⌝ }
 {
     let relation = reading::number_at(log, at + 1);
     if relation == 2 {
-        if x == reading::number_at(log, at) {
+        let i = x.0;
+        if i == reading::number_at(log, at) {
             return words::at_most(value, words::word(log, at + 2));
         }
     }
@@ -50,9 +51,9 @@ fn is_at_least(log: &[i32], at: usize, v: usize, x: usize, value: i32) -> bool
 }
 
 // Does it say, without any premise, that x is at least some number not below `value`?
-fn says_at_least(fact: FactPlace, log: &[i32], v: usize, x: usize, value: i32) -> bool
+fn says_at_least(fact: FactPlace, log: &[i32], v: usize, x: VarNo, value: i32) -> bool
     requires { ⌜ FactIn v (now log) fact ⌝ }
-    ensures { λ r. ⌜ r ≡ saysAtLeast x value (factOf (now (log .entry)) fact) ⌝ }
+    ensures { λ r. ⌜ r ≡ saysAtLeast (x .0) value (factOf (now (log .entry)) fact) ⌝ }
 {
     if fact.count == 0 {
         if fact.then == 1 {
@@ -83,6 +84,5 @@ pub fn never_below(
     ensures { λ r. ⌜ toldVerdict r ≡ fits24 (saysAtLeast (x .0) value (factAt (map (madeFact (now (log .entry))) (take k (now (places .entry)))) (n .0))) ⌝ }
 {
     let f = cited(log, places, v, k, n);
-    let i = x.0;
-    verdict(says_at_least(f, log, v, i, value))
+    verdict(says_at_least(f, log, v, x, value))
 }

@@ -2,6 +2,7 @@
 use domain::Next;
 use reading::number_at;
 use steps::FactPlace;
+use words::VarNo;
 ghost use mathlib.Core.Path.{_≡_};
 ghost use mathlib.Core.Option.{none};
 ghost use Prim.Native.Nat.{_+_, _≤_, _<_};
@@ -65,7 +66,7 @@ fn next_value(cells: &[i32], xs: &[usize], from: i32) -> Next
     let mut i: usize = 0;
     while i < xs.len() {
         let x = xs[i];
-        best = sooner(best, domain::next_from(cells, x, from));
+        best = sooner(best, domain::next_from(cells, VarNo(x), from));
         i += 1;
     }
     best

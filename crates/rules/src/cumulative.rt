@@ -1,4 +1,5 @@
 // The cumulative row: some activity finds no room at any start left to it, beside the sure parts of the others.
+use crate::variable_at;
 use reading::number_at;
 ghost use mathlib.Core.Path.{_≡_};
 ghost use mathlib.Core.Bool.{_||_};
@@ -163,7 +164,7 @@ fn fill_part(model: &[i32], at: usize, cells: &[i32], parts: &mut [i32], k: usiz
     requires { ⌜ (k < 16) × ActivityIn (variables (now cells)) (now model) at × Ready (now cells) × (length (now parts) ≡ 48) ⌝ }
     ensures { λ _. ⌜ now (parts .exit) ≡ partPut (values (now (cells .entry))) (activityAt (now (model .entry)) at) k (now (parts .entry)) ⌝ }
 {
-    let x = number_at(model, at);
+    let x = variable_at(model, at);
     let lasts = model[at + 1];
     let usage = model[at + 2];
     let from = domain::largest(cells, x);
@@ -214,7 +215,7 @@ fn squeezed_at(
     let n = number_at(model, p);
     let capacity = model[p + 1];
     let at = p + 2 + i * 3;
-    let x = number_at(model, at);
+    let x = variable_at(model, at);
     let lasts = model[at + 1];
     let last = parts[i];
     let mut s = parts[i + 16] - lasts;

@@ -1,4 +1,5 @@
 // Linear rows: the least sum, in exact signed numbers, held against the bound.
+use crate::variable_at;
 use reading::number_at;
 ghost use mathlib.Core.Path.{_≡_};
 ghost use Prim.Native.Nat.{_+_, _<_};
@@ -16,7 +17,7 @@ fn least_term(model: &[i32], at: usize, cells: &[i32]) -> i64
     ensures { λ r. ⌜ r ≡ leastTerm (intAt (now (model .entry)) at) (values (now (cells .entry)) (natAt (now (model .entry)) (at + 1))) ⌝ }
 {
     let coefficient = model[at];
-    let x = number_at(model, at + 1);
+    let x = variable_at(model, at + 1);
     if coefficient < 0 {
         return words::product(coefficient, domain::largest(cells, x));
     }

@@ -67,11 +67,11 @@ returns c =
     let f = s .fits .value in
     let n = c .before .before .count .ensures in
     let k = c .count2 .ensures in
-    let v : SFits w32 (pos (s .args .x)) = record { sfits = omega arith } in
+    let v : SFits w32 (pos (s .args .x .0)) = record { sfits = omega arith } in
     let w : SFits w32 (pos (c .count2 .result + 1)) = record { sfits = omega arith } in
-    let t : toZ w32 (s .args .x) ≡ pos (s .args .x) = toZ-ofZ v in
+    let t : toZ w32 (s .args .x .0) ≡ pos (s .args .x .0) = toZ-ofZ v in
     let u : toZ w32 (c .count2 .result + 1) ≡ pos (c .count2 .result + 1) = toZ-ofZ w in
-    simp (toZ-ofZ, t, u) (rw (n .0, k .0) (sym (holed-is (now (s .args .cells)) (s .args .x) (s .args .value))))
+    simp (toZ-ofZ, t, u) (rw (n .0, k .0) (sym (holed-is (now (s .args .cells)) (s .args .x .0) (s .args .value))))
 
 pub add-hole-spec : {M : Type 1} → statement M
 add-hole-spec =

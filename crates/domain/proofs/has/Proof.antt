@@ -27,13 +27,13 @@ is-hole-requires c κs = search needs
 -- the value lies between the ends, and is no hole
 split : (c : tie.After-in-range) →
     let s = c .before .before .before .args in
-    member eqZ (s .value) (values (now (s .cells)) (s .x)) ≡ (c .in-range .result && not (isHole (now (s .cells)) (s .x) (s .value)))
+    member eqZ (s .value) (values (now (s .cells)) (s .x .0)) ≡ (c .in-range .result && not (isHole (now (s .cells)) (s .x .0) (s .value)))
 split c =
     let s = c .before .before .before in
     let f = s .fits .value in
     let g = fit w32 (c .before .before .low-end .result) (c .before .before .low-end .ok) in
     let h = fit w32 (c .before .high-end .result) (c .before .high-end .ok) in
-    member-values (now (s .args .cells)) (s .args .x) (s .pre .1) (s .args .value) ∙ rw (← c .before .before .low-end .ensures, ← c .before .high-end .ensures, simp toZ-ofZ at (c .in-range .ensures))
+    member-values (now (s .args .cells)) (s .args .x .0) (s .pre .1) (s .args .value) ∙ rw (← c .before .before .low-end .ensures, ← c .before .high-end .ensures, simp toZ-ofZ at (c .in-range .ensures))
 
 returns : tie.Need-returns
 returns c =

@@ -25,7 +25,7 @@ returns c =
     let s = c .before .before .before in
     let f = s .fits .value in
     let e = is-lit (pos 1) (s .fits .relation) (c .before .before .if1 .taken) tt in
-    simp toZ-ofZ at (c .none-or-at-most .ensures) ∙ rw (c .before .last .ensures) (sym (holds-at-most (now (s .args .cells)) (s .args .x) (s .args .relation) (s .args .value) e))
+    simp toZ-ofZ at (c .none-or-at-most .ensures) ∙ rw (c .before .last .ensures) (sym (holds-at-most (now (s .args .cells)) (s .args .x .0) (s .args .relation) (s .args .value) e))
 
 first-requires : tie.Need-first-requires
 first-requires c κs = search needs
@@ -38,7 +38,7 @@ returns-2 c =
     let s = c .before .before .before .before in
     let f = s .fits .value in
     let e = is-lit (pos 2) (s .fits .relation) (c .before .before .if2 .taken) tt in
-    simp toZ-ofZ at (c .none-or-at-least .ensures) ∙ rw (c .before .first .ensures) (sym (holds-at-least (now (s .args .cells)) (s .args .x) (s .args .relation) (s .args .value) e))
+    simp toZ-ofZ at (c .none-or-at-least .ensures) ∙ rw (c .before .first .ensures) (sym (holds-at-least (now (s .args .cells)) (s .args .x .0) (s .args .relation) (s .args .value) e))
 
 first-requires-2 : tie.Need-first-requires-2
 first-requires-2 c κs = search needs
@@ -55,12 +55,12 @@ none-or-same-requires-2 c κs = search needs
 -- both ends decide whether all are equal to the value
 by-ends : (c : tie.After-none-or-same) →
     let s = c .before .before .before .before .before .before in
-    all (stands (s .args .relation) (s .args .value)) (values (now (s .args .cells)) (s .args .x)) ≡ (c .none-or-same .result && noneOr (λ v. eqZ v (s .args .value)) (toldNext (c .before .last2 .result)))
+    all (stands (s .args .relation) (s .args .value)) (values (now (s .args .cells)) (s .args .x .0)) ≡ (c .none-or-same .result && noneOr (λ v. eqZ v (s .args .value)) (toldNext (c .before .last2 .result)))
 by-ends c =
     let s = c .before .before .before .before .before .before in
     let f = s .fits .value in
     let e = is-lit (pos 3) (s .fits .relation) (c .before .before .before .if3 .taken) tt in
-    holds-equal (now (s .args .cells)) (s .args .x) (s .args .relation) (s .args .value) e ∙ rw (simp toZ-ofZ at (c .none-or-same .ensures), c .before .before .first2 .ensures, c .before .last2 .ensures)
+    holds-equal (now (s .args .cells)) (s .args .x .0) (s .args .relation) (s .args .value) e ∙ rw (simp toZ-ofZ at (c .none-or-same .ensures), c .before .before .first2 .ensures, c .before .last2 .ensures)
 
 returns-3 : tie.Need-returns-3
 returns-3 c =
@@ -79,7 +79,7 @@ returns-5 c =
     let r = s .args .relation in
     let f = s .fits .value in
     rw (simp toZ-ofZ at (c .has .ensures))
-    (sym (holds-not-equal (now (s .args .cells)) (s .args .x) r (s .args .value) (eq32-f r (pos 1) (c .before .before .before .if1 .left)) (eq32-f r (pos 2) (c .before .before .if2 .left)) (eq32-f r (pos 3) (c .before .if3 .left))))
+    (sym (holds-not-equal (now (s .args .cells)) (s .args .x .0) r (s .args .value) (eq32-f r (pos 1) (c .before .before .before .if1 .left)) (eq32-f r (pos 2) (c .before .before .if2 .left)) (eq32-f r (pos 3) (c .before .if3 .left))))
 
 pub holds-spec : {M : Type 1} → statement M
 holds-spec =

@@ -21,7 +21,7 @@ returns : tie.Need-returns
 returns c =
     let m = fit w32 (c .or-zero .result) (c .or-zero .ok) in
     let s = c .before .before .args in
-    simp toZ-ofZ (c .or-zero .ensures ∙ ap orZero (c .before .last .ensures) ∙ end-value largest refl (values (now (s .cells)) (s .x)))
+    simp toZ-ofZ (c .or-zero .ensures ∙ ap orZero (c .before .last .ensures) ∙ end-value largest refl (values (now (s .cells)) (s .x .0)))
 
 pub largest-spec : {M : Type 1} → statement M
 largest-spec = tie.close (tie.spec last-requires or-zero-requires returns)

@@ -16,7 +16,7 @@ returns c =
     let l = now (o .args .log) in
     let f = fit w32 (getD l (o .args .at + 1) (pos 0)) (c .before .before .relation .given) in
     let g = fit w32 (getD l (o .args .at + 2) (pos 0)) (c .before .value .given) in
-    rw (← (c .before .before .before .number-at .ensures)) (simp toZ-ofZ at (c .holds .ensures))
+    rw (← (c .before .before .before .variable-at .ensures)) (simp toZ-ofZ at (c .holds .ensures))
 
 pub holds-at-spec : {M : Type 1} → statement M
 holds-at-spec =

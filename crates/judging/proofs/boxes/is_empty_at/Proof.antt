@@ -3,7 +3,7 @@ use Rattle.judging.proofs.boxes.is_empty_at.Statement.{statement}
 use Rattle.judging.proofs.boxes.is_empty_at.Tie as tie
 
 returns : tie.Need-returns
-returns c = rw (← (c .before .number-at .ensures)) (c .is-empty .ensures)
+returns c = rw (← (c .before .variable-at .ensures)) (c .is-empty .ensures)
 
 pub is-empty-at-spec : {M : Type 1} → statement M
 is-empty-at-spec =

@@ -17,7 +17,7 @@ returns c =
     let l = now (o .args .log) in
     let f = fit w32 (getD l (o .args .at + 1) (pos 0)) (d .before .before .before .relation .given) in
     let g = fit w32 (getD l (o .args .at + 2) (pos 0)) (d .before .before .value .given) in
-    rw (← (d .before .before .before .before .number-at .ensures)) (simp toZ-ofZ at (d .narrow .ensures))
+    rw (← (d .before .before .before .before .variable-at .ensures)) (simp toZ-ofZ at (d .narrow .ensures))
 
 pub narrow-atom-spec : {M : Type 1} → statement M
 narrow-atom-spec =

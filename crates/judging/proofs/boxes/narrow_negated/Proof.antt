@@ -22,7 +22,7 @@ narrow-not-requires c κs =
     let p = o .pre in
     let w = getD l (o .args .at + 2) (pos 0) in
     let a = p .0 .value in
-    (p .1, p .2, rw (c .before .before .before .number-at .ensures) (p .0 .named .known), simp toZ-ofZ (omega (arith, zz, abs-is w, one-side w)), simp toZ-ofZ (omega (arith, zz, abs-is w, one-side w)))
+    (p .1, p .2, rw (c .before .before .before .variable-at .ensures) (p .0 .named .known), simp toZ-ofZ (omega (arith, zz, abs-is w, one-side w)), simp toZ-ofZ (omega (arith, zz, abs-is w, one-side w)))
 
 returns : tie.Need-returns
 returns c =
@@ -31,7 +31,7 @@ returns c =
     let l = now (o .args .log) in
     let f = fit w32 (getD l (o .args .at + 1) (pos 0)) (d .before .before .before .relation .given) in
     let g = fit w32 (getD l (o .args .at + 2) (pos 0)) (d .before .before .value .given) in
-    rw (← (d .before .before .before .before .number-at .ensures)) (simp toZ-ofZ at (d .narrow-not .ensures))
+    rw (← (d .before .before .before .before .variable-at .ensures)) (simp toZ-ofZ at (d .narrow-not .ensures))
 
 pub narrow-negated-spec : {M : Type 1} → statement M
 narrow-negated-spec =

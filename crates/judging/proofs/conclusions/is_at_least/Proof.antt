@@ -25,7 +25,7 @@ returns c =
     let q = u .before in
     let o = q .before in
     let l = now (o .args .log) in
-    rw (second-relation (natAt l (o .args .at + 1)) (sym (q .number-at .ensures) ∙ u .if1 .taken), eq-eqb (o .args .x) (natAt l (o .args .at)) (t .if2 .taken ∙ n .number-at2 .ensures)) (
+    rw (second-relation (natAt l (o .args .at + 1)) (sym (q .number-at .ensures) ∙ u .if1 .taken), eq-eqb (o .args .x .0) (natAt l (o .args .at)) (t .if2 .taken ∙ n .number-at2 .ensures)) (
     let f = fit w32 (w .word .result) (w .word .ok) in
     let g = o .fits .value in
     simp toZ-ofZ at (c .at-most .ensures) ∙ rw (w .word .ensures))
@@ -37,7 +37,7 @@ returns-2 c =
     let q = u .before in
     let o = q .before in
     let l = now (o .args .log) in
-    rw (second-relation (natAt l (o .args .at + 1)) (sym (q .number-at .ensures) ∙ u .if1 .taken), ne-eqb (o .args .x) (natAt l (o .args .at)) (λ e. c .if2 .left (e ∙ sym (n .number-at2 .ensures))))
+    rw (second-relation (natAt l (o .args .at + 1)) (sym (q .number-at .ensures) ∙ u .if1 .taken), ne-eqb (o .args .x .0) (natAt l (o .args .at)) (λ e. c .if2 .left (e ∙ sym (n .number-at2 .ensures))))
 
 returns-3 : tie.Need-returns-3
 returns-3 c =

@@ -9,13 +9,13 @@ is-at-least-requires : tie.Need-is-at-least-requires
 is-at-least-requires c κs = c .before .before .before .before .pre .consequence (c .if2 .taken)
 
 returns : tie.Need-returns
-returns c = let o = c .before .before .before .before .before in rw (least-so (now (o .args .log)) (o .args .fact) (o .args .x) (o .args .value) (c .before .before .before .if1 .taken) (c .before .if2 .taken)) (let g = o .fits .value in simp toZ-ofZ at (c .is-at-least .ensures))
+returns c = let o = c .before .before .before .before .before in rw (least-so (now (o .args .log)) (o .args .fact) (o .args .x .0) (o .args .value) (c .before .before .before .if1 .taken) (c .before .if2 .taken)) (let g = o .fits .value in simp toZ-ofZ at (c .is-at-least .ensures))
 
 returns-2 : tie.Need-returns-2
-returns-2 c = let o = c .before .before .before .before in sym (least-none (now (o .args .log)) (o .args .fact) (o .args .x) (o .args .value) (c .before .before .if1 .taken) (o .pre .one) (c .if2 .left))
+returns-2 c = let o = c .before .before .before .before in sym (least-none (now (o .args .log)) (o .args .fact) (o .args .x .0) (o .args .value) (c .before .before .if1 .taken) (o .pre .one) (c .if2 .left))
 
 returns-3 : tie.Need-returns-3
-returns-3 c = let o = c .before .before in sym (least-not (now (o .args .log)) (o .args .fact) (o .args .x) (o .args .value) (c .if1 .left))
+returns-3 c = let o = c .before .before in sym (least-not (now (o .args .log)) (o .args .fact) (o .args .x .0) (o .args .value) (c .if1 .left))
 
 pub says-at-least-spec : {M : Type 1} → statement M
 says-at-least-spec =

@@ -24,11 +24,11 @@ abbrev μ-loop : tie.MeasureT-loop
 loop-holds : tie.Need-loop-holds Inv-loop μ-loop
 loop-holds c = (omega arith, refl, λ i h. absurd (omega arith))
 
-add-number-at : tie.Need-add-number-at Inv-loop μ-loop
-add-number-at c = search needs
+add-variable-at : tie.Need-add-variable-at Inv-loop μ-loop
+add-variable-at c = search needs
 
-number-at-requires : tie.Need-number-at-requires Inv-loop μ-loop
-number-at-requires c κs =
+variable-at-requires : tie.Need-variable-at-requires Inv-loop μ-loop
+variable-at-requires c κs =
     let i = c .before .loop .i in
     let v = c .before .before .pre .1 .named i (c .loop-test .taken) in
     (v .inside, v .signless)
@@ -38,7 +38,7 @@ targets-requires c κs =
     let i = c .before .before .loop .i in
     let s = c .before .before .before in
     let v = s .pre .1 .named i (c .before .loop-test .taken) in
-    (s .pre .0, rw (c .number-at .ensures) (v .known), s .pre .2)
+    (s .pre .0, rw (c .variable-at .ensures) (v .known), s .pre .2)
 
 mul-table : tie.Need-mul-table Inv-loop μ-loop
 mul-table c = search needs
@@ -58,7 +58,7 @@ loop-again c =
     let a = c .before .before .before .before .args in
     let h = c .before .before .loop-test .taken in
     let q : a .p + l .i * 1 ≡ a .p + l .i = omega arith in
-    let e = c .before .number-at .ensures ∙ ap (natAt (a .model .now)) (sym q) ∙ sym (getD-each natAt 1 (a .n) (a .model .now) (a .p) (l .i) 0 h) in (
+    let e = c .before .variable-at .ensures ∙ ap (natAt (a .model .now)) (sym q) ∙ sym (getD-each natAt 1 (a .n) (a .model .now) (a .p) (l .i) 0 h) in (
       omega arith,
       length-set (l .table) (l .i) (c .targets .result) ∙ l .inv .1,
       rows-more _ _ (l .i) (l .table) (omega arith) (l .inv .2)
@@ -79,8 +79,8 @@ links-of-spec =
     Inv-loop
     μ-loop
     loop-holds
-    add-number-at
-    number-at-requires
+    add-variable-at
+    variable-at-requires
     targets-requires
     mul-table
     array-write-table

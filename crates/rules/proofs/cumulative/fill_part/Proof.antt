@@ -20,8 +20,8 @@ use Rattle.rules.specs.CumulativeFill.{signless, ending-small}
 use Rattle.rules.proofs.cumulative.fill_part.Statement.{statement}
 use Rattle.rules.proofs.cumulative.fill_part.Tie as tie
 
-number-at-requires : tie.Need-number-at-requires
-number-at-requires c κs = search needs
+variable-at-requires : tie.Need-variable-at-requires
+variable-at-requires c κs = search needs
 
 add-lasts : tie.Need-add-lasts
 add-lasts c = search needs
@@ -53,7 +53,7 @@ ended c =
     let s = c .before .before .before .before .before in
     let m = now (s .args .model) in
     let d = values (now (s .args .cells)) in
-    let e : c .least .result ≡ least (d (natAt m (s .args .at))) = c .least .ensures ∙ ap (λ x. least (d x)) (c .before .before .before .before .number-at .ensures) in
+    let e : c .least .result ≡ least (d (natAt m (s .args .at))) = c .least .ensures ∙ ap (λ x. least (d x)) (c .before .before .before .before .variable-at .ensures) in
     let b = ending-small d (s .pre .2 .small) _ m (s .args .at) (s .pre .1) in
     let l = s .pre .1 .lasting in
     let q = signless (getD m (s .args .at + 1) (pos 0)) (omega (arith, zz)) in
@@ -104,14 +104,14 @@ returns c =
     let i = fit w32 (c .before .largest .result) (c .before .largest .ok) in
     let j = ended c .1 in
     let l = s .pre .1 .lasting in
-    let e : c .before .largest .result ≡ largest (d (natAt m (s .args .at))) = c .before .largest .ensures ∙ ap (λ x. largest (d x)) (c .before .before .before .before .number-at .ensures) in
+    let e : c .before .largest .result ≡ largest (d (natAt m (s .args .at))) = c .before .largest .ensures ∙ ap (λ x. largest (d x)) (c .before .before .before .before .variable-at .ensures) in
     simp toZ-ofZ (rw (signless (getD m (s .args .at + 1) (pos 0)) (omega (arith, zz)), signless (getD m (s .args .at + 2) (pos 0)) (s .pre .1 .uses .0), e, ended c .0))
 
 pub fill-part-spec : {M : Type 1} → statement M
 fill-part-spec =
     tie.close
     (tie.spec
-    number-at-requires
+    variable-at-requires
     add-lasts
     mul-lasts
     shared-slice-copy-out-lasts

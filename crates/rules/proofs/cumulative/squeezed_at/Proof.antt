@@ -57,8 +57,8 @@ mul-at c = let s = c .before .before in omega (arith, (reads s) .inside, s .good
 add-at-2 : tie.Need-add-at-2 Inv-loop μ-loop
 add-at-2 c = let s = c .before .before in omega (arith, (reads s) .inside, s .good)
 
-number-at-requires-2 : tie.Need-number-at-requires-2 Inv-loop μ-loop
-number-at-requires-2 c κs = let k = (reads (c .before .before)) .named in (k .inside, k .signless)
+variable-at-requires : tie.Need-variable-at-requires Inv-loop μ-loop
+variable-at-requires c κs = let k = (reads (c .before .before)) .named in (k .inside, k .signless)
 
 add-lasts : tie.Need-add-lasts Inv-loop μ-loop
 add-lasts c = let s = c .before .before .before in omega (arith, (reads s) .inside, s .good)
@@ -157,14 +157,14 @@ returns-2 c =
 next-from-requires : tie.Need-next-from-requires Inv-loop μ-loop
 next-from-requires c κs =
     let s = c .before .before .before .before .before .before .before .before .before .before in
-    (s .pre .1 .box .formed, rw (c .before .before .before .before .before .before .before .number-at2 .ensures) ((reads s) .named .known))
+    (s .pre .1 .box .formed, rw (c .before .before .before .before .before .before .before .variable-at .ensures) ((reads s) .named .known))
 
 -- the next start left past the leap
 told : (c : tie.After-next-from Inv-loop μ-loop) → toldNext (c .next-from .result) ≡ firstFrom (leap (now (c .before .before .before .before .before .before .before .before .before .before .before .args .parts)) (now (c .before .before .before .before .before .before .before .before .before .before .before .args .peaks)) (natAt (now (c .before .before .before .before .before .before .before .before .before .before .before .args .model)) (c .before .before .before .before .before .before .before .before .before .before .before .args .p)) (getD (now (c .before .before .before .before .before .before .before .before .before .before .before .args .model)) (c .before .before .before .before .before .before .before .before .before .before .before .args .p + 1) (pos 0)) (c .before .before .before .before .before .before .before .before .before .before .before .args .i) (toZ w32 (c .before .before .before .before .loop .s)) (getD (now (c .before .before .before .before .before .before .before .before .before .before .before .args .model)) (c .before .before .before .before .before .before .before .before .before .before .before .args .p + 2 + c .before .before .before .before .before .before .before .before .before .before .before .args .i * 3 + 1) (pos 0))) (values (now (c .before .before .before .before .before .before .before .before .before .before .before .args .cells)) (natAt (now (c .before .before .before .before .before .before .before .before .before .before .before .args .model)) (c .before .before .before .before .before .before .before .before .before .before .before .args .p + 2 + c .before .before .before .before .before .before .before .before .before .before .before .args .i * 3)))
 told c =
     let a = c .before .before .before in
     let m = fit w32 (a .leap-from .result) (a .leap-from .ok) in
-    rw (← leaps a, ← c .before .before .before .before .before .before .before .before .number-at2 .ensures) (simp toZ-ofZ at (c .next-from .ensures))
+    rw (← leaps a, ← c .before .before .before .before .before .before .before .before .variable-at .ensures) (simp toZ-ofZ at (c .next-from .ensures))
 
 enum-known-next : tie.Need-enum-known-next Inv-loop μ-loop
 enum-known-next c = search needs
@@ -216,7 +216,7 @@ squeezed-at-spec =
     add-at
     mul-at
     add-at-2
-    number-at-requires-2
+    variable-at-requires
     add-lasts
     mul-lasts
     shared-slice-copy-out-lasts

@@ -20,11 +20,11 @@ mul-coefficient c = search needs
 shared-slice-copy-out-coefficient : tie.Need-shared-slice-copy-out-coefficient
 shared-slice-copy-out-coefficient c = search needs
 
-add-number-at : tie.Need-add-number-at
-add-number-at c = search needs
+add-variable-at : tie.Need-add-variable-at
+add-variable-at c = search needs
 
-number-at-requires : tie.Need-number-at-requires
-number-at-requires c κs = search needs
+variable-at-requires : tie.Need-variable-at-requires
+variable-at-requires c κs = search needs
 
 largest-requires : tie.Need-largest-requires
 largest-requires c κs = search needs
@@ -41,7 +41,7 @@ returns c =
     let h = fit w64 (c .product .result) (c .product .ok) in
     let k = getD (now (s .args .model)) (s .args .at) (pos 0) in
     let vs = values (now (s .args .cells)) (natAt (now (s .args .model)) (s .args .at + 1)) in
-    simp toZ-ofZ (simp toZ-ofZ at (c .product .ensures) ∙ rw (c .before .largest .ensures, n .number-at .ensures) (sym (term-below k vs (simp toZ-ofZ at (c .before .before .if1 .taken)))))
+    simp toZ-ofZ (simp toZ-ofZ at (c .product .ensures) ∙ rw (c .before .largest .ensures, n .variable-at .ensures) (sym (term-below k vs (simp toZ-ofZ at (c .before .before .if1 .taken)))))
 
 least-requires : tie.Need-least-requires
 least-requires c κs = search needs
@@ -58,7 +58,7 @@ returns-2 c =
     let h = fit w64 (c .product2 .result) (c .product2 .ok) in
     let k = getD (now (s .args .model)) (s .args .at) (pos 0) in
     let vs = values (now (s .args .cells)) (natAt (now (s .args .model)) (s .args .at + 1)) in
-    simp toZ-ofZ (simp toZ-ofZ at (c .product2 .ensures) ∙ rw (c .before .least .ensures, n .number-at .ensures) (sym (term-above k vs (simp toZ-ofZ at (c .before .before .if1 .left)))))
+    simp toZ-ofZ (simp toZ-ofZ at (c .product2 .ensures) ∙ rw (c .before .least .ensures, n .variable-at .ensures) (sym (term-above k vs (simp toZ-ofZ at (c .before .before .if1 .left)))))
 
 pub least-term-spec : {M : Type 1} → statement M
 least-term-spec =
@@ -66,8 +66,8 @@ least-term-spec =
     (tie.spec
     mul-coefficient
     shared-slice-copy-out-coefficient
-    add-number-at
-    number-at-requires
+    add-variable-at
+    variable-at-requires
     largest-requires
     product-requires
     returns
