@@ -20,7 +20,7 @@ pub fn narrow_atom(log: &[i32], at: usize, cells: &mut [i32])
     let x = variable_at(log, at);
     let relation = log[at + 1];
     let value = log[at + 2];
-    domain::narrow(&mut *cells, x, relation, value);
+    domain::narrow(x, relation, value, &mut *cells);
 }
 
 // The box after the negation of that atom.
@@ -31,7 +31,7 @@ fn narrow_negated(log: &[i32], at: usize, cells: &mut [i32])
     let x = variable_at(log, at);
     let relation = log[at + 1];
     let value = log[at + 2];
-    domain::narrow_not(&mut *cells, x, relation, value);
+    domain::narrow_not(x, relation, value, &mut *cells);
 }
 
 // The box after each of the atoms that begin at a position.
