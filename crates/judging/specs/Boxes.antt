@@ -1,19 +1,19 @@
 -- The box of a fact as the words of the tables make it: loaded, narrowed atom by atom, and whether a set of it is empty.
 use Prim.Native.Nat.{ℕ, zero, suc, _+_, _*_, _-_, _≤_, _<_}
-use mathlib.Core.Path.{_≡_, refl, sym, ap, _∙_}
-use mathlib.Core.Bool.{Bool, true, false, _||_}
+use mathlib.Core.Path.{_≡_, refl, _∙_}
+use mathlib.Core.Bool.{Bool, false, _||_}
 use mathlib.Core.List.{List}
 use native.Mathlib.Omega.{arith}
-use native.Mathlib.Nat.{sub-zero}
 use lib.IntN.{ℤ}
 use lib.ListN.{length}
 use Rattle.words.specs.Lists.{isEmpty}
 use Rattle.domain.specs.Box.{variables, Formed, Room, values, opposite, shifted, narrowed, loaded}
-use Rattle.domain.specs.Box.Narrow.{narrowed-length, narrowed-variables, narrowed-formed, narrowed-room, room-one}
+use Rattle.domain.specs.Box.Narrow.{narrowed-variables, narrowed-formed, narrowed-room, room-one}
 use Rattle.domain.specs.Box.Load.{loaded-formed, loaded-variables, loaded-room}
 use Rattle.reading.specs.At.{natAt, intAt}
-use Rattle.steps.specs.Facts.{AtomIn, FactIn}
+use Rattle.steps.specs.Facts.{AtomIn}
 use Rattle.steps.specs.declared.FactPlace.{FactPlace}
+use Rattle.judging.specs.InTurn.{inTurn, fromAll}
 
 -- n atoms from p on
 abbrev pub AtomsIn : ℕ → List ℤ → ℕ → ℕ → Type 0
@@ -27,9 +27,8 @@ abbrev pub narrowedNot : List ℤ → ℕ → List ℤ → List ℤ
 narrowedNot log p cells = narrowed cells (natAt log p) (opposite (intAt log (p + 1))) (shifted (intAt log (p + 1)) (intAt log (p + 2)))
 
 -- n atoms in order
-unfoldable pub narrowedEach : List ℤ → ℕ → ℕ → List ℤ → List ℤ
-narrowedEach log zero p cells = cells
-narrowedEach log (suc n) p cells = narrowedEach log n (p + 3) (narrowedAt log p cells)
+abbrev pub narrowedEach : List ℤ → ℕ → ℕ → List ℤ → List ℤ
+narrowedEach log = inTurn (narrowedAt log)
 
 -- q consequents, none or one
 abbrev pub narrowedThen : List ℤ → ℕ → ℕ → List ℤ → List ℤ
@@ -43,9 +42,11 @@ filled model v log f cells = narrowedThen log (f .then) (f .consequent) (narrowe
 abbrev pub emptyAt : List ℤ → ℕ → List ℤ → Bool
 emptyAt log p cells = isEmpty (values cells (natAt log p))
 
-unfoldable pub emptyEach : List ℤ → ℕ → ℕ → List ℤ → Bool
-emptyEach log zero p cells = false
-emptyEach log (suc n) p cells = emptyAt log p cells || emptyEach log n (p + 3) cells
+abbrev pub orEmpty : List ℤ → List ℤ → ℕ → Bool → Bool
+orEmpty log cells p b = emptyAt log p cells || b
+
+abbrev pub emptyEach : List ℤ → ℕ → ℕ → List ℤ → Bool
+emptyEach log n p cells = fromAll (orEmpty log cells) false n p
 
 abbrev pub emptyThen : List ℤ → ℕ → ℕ → List ℤ → Bool
 emptyThen log zero p cells = false
@@ -53,40 +54,6 @@ emptyThen log (suc q) p cells = emptyAt log p cells
 
 abbrev pub boxEmpty : List ℤ → FactPlace → List ℤ → Bool
 boxEmpty log f cells = emptyEach log (f .count) (f .premises) cells || emptyThen log (f .then) (f .consequent) cells
-
--- ---- loops over n atoms from p: what is left after i of them
-module _ (log : List ℤ) (n p : ℕ) where
-  suc-left : (i : ℕ) → i < n → n - i ≡ suc (n - (i + 1))
-  suc-left i h = omega arith
-
-  next-at : (i : ℕ) → p + i * 3 + 3 ≡ p + (i + 1) * 3
-  next-at i = omega arith
-
-  pub each-all : (cells : List ℤ) → narrowedEach log n p cells ≡ narrowedEach log (n - 0) (p + 0 * 3) cells
-  each-all cells = let q : p + 0 * 3 ≡ p = omega arith in rw (q, sub-zero)
-
-  pub each-more : (i : ℕ) (cells : List ℤ) → i < n → narrowedEach log (n - i) (p + i * 3) cells ≡ narrowedEach log (n - (i + 1)) (p + (i + 1) * 3) (narrowedAt log (p + i * 3) cells)
-  unfolding narrowedEach
-  each-more i cells h = rw (suc-left i h, ← next-at i)
-
-  pub each-none : (i : ℕ) (cells : List ℤ) → n ≤ i → narrowedEach log (n - i) (p + i * 3) cells ≡ cells
-  unfolding narrowedEach
-  each-none i cells h = let z : n - i ≡ 0 = omega arith in rw z
-
-  pub empty-all : (cells : List ℤ) → emptyEach log n p cells ≡ emptyEach log (n - 0) (p + 0 * 3) cells
-  empty-all cells = let q : p + 0 * 3 ≡ p = omega arith in rw (q, sub-zero)
-
-  pub empty-here : (i : ℕ) (cells : List ℤ) → i < n → emptyAt log (p + i * 3) cells ≡ true → emptyEach log (n - i) (p + i * 3) cells ≡ true
-  unfolding emptyEach
-  empty-here i cells h e = rw (suc-left i h, e)
-
-  pub empty-more : (i : ℕ) (cells : List ℤ) → i < n → emptyAt log (p + i * 3) cells ≡ false → emptyEach log (n - i) (p + i * 3) cells ≡ emptyEach log (n - (i + 1)) (p + (i + 1) * 3) cells
-  unfolding emptyEach
-  empty-more i cells h e = rw (suc-left i h, e, ← next-at i)
-
-  pub empty-none : (i : ℕ) (cells : List ℤ) → n ≤ i → emptyEach log (n - i) (p + i * 3) cells ≡ false
-  unfolding emptyEach
-  empty-none i cells h = let z : n - i ≡ 0 = omega arith in rw z
 
 -- ---- a box stays one
 pub record Boxed (v k : ℕ) (cells : List ℤ) : Type 0 where
@@ -110,7 +77,7 @@ boxed-less j h b = record { formed = b .formed; counted = b .counted; room = rec
 -- n atoms take n places
 module _ (log : List ℤ) where
   pub boxed-each : (n p : ℕ) {v : ℕ} (k : ℕ) (cells : List ℤ) → AtomsIn v log p n → Boxed v (n + k) cells → Boxed v k (narrowedEach log n p cells)
-  unfolding narrowedEach
+  unfolding inTurn
   boxed-each zero p k cells a b = boxed-less k (omega arith) b
   boxed-each (suc n) p k cells a b =
       let q : p + 0 * 3 ≡ p = omega arith in

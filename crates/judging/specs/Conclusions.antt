@@ -1,9 +1,9 @@
 -- What the words of a fact tell of a conclusion that cites it, and how a cited fact is found.
-use Prim.Native.Nat.{ℕ, zero, suc, _+_, _≤_, _<_}
-use mathlib.Core.Path.{_≡_, refl, sym, ap, _∙_}
-use mathlib.Core.Bool.{Bool, true, false, _&&_}
+use Prim.Native.Nat.{ℕ, zero, suc, _≤_, _<_}
+use mathlib.Core.Path.{_≡_, refl, sym}
+use mathlib.Core.Bool.{true, false}
 use mathlib.Core.List.{List, [], _∷_, map}
-use mathlib.Core.Option.{Option, none, some}
+use mathlib.Core.Option.{some}
 use native.Mathlib.Omega.{arith}
 use borrow.Author.Tests.{ne-eqb}
 use lib.Dec.{eqb}
@@ -11,8 +11,8 @@ use lib.IntN.{ℤ}
 use lib.ListN.{length, take, getD}
 use Rattle.meaning.specs.Log.{Atom, Fact, relationOf}
 use Rattle.meaning.specs.Judge.{givesFalse, saysFalse, isAtLeast, givesAtLeast, saysAtLeast}
-use Rattle.meaning.specs.Check.{factAt, noFact}
-use Rattle.reading.specs.At.{natAt, intAt, eachAt}
+use Rattle.meaning.specs.Check.{factAt}
+use Rattle.reading.specs.At.{eachAt}
 use Rattle.steps.specs.Facts.{atomAt, thenAt, factOf}
 use Rattle.steps.specs.declared.FactPlace.{FactPlace}
 

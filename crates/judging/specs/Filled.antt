@@ -1,31 +1,31 @@
 -- The box that the words of the tables make leaves what the meaning's box of the fact leaves; and it has an empty set exactly where the variable of one of the fact's atoms has no value left.
 use Prim.Native.Nat.{ℕ, zero, suc, _+_, _*_, _≤_, _<_}
 use mathlib.Core.Path.{_≡_, refl, sym, ap, ap₂, subst, _∙_}
-use mathlib.Core.Bool.{Bool, true, false, not, _||_}
+use mathlib.Core.Bool.{Bool, true, false, _||_}
 use mathlib.Core.Logic.{⊎-elim}
 use mathlib.Core.List.{List, [], _∷_, _++_, append-nil, append-assoc, List·Memᴰ as In, List·Memᴰ·head as here, List·Memᴰ·tail as there}
-use mathlib.Core.Option.{Option, none, some}
+use mathlib.Core.Option.{some}
 use native.Mathlib.Omega.{arith}
 use lib.Dec.{eqb}
 use lib.IntN.{ℤ}
 use lib.ListN.{length}
-use borrow.Author.Tests.{eqb-true, eq-eqb, ne-eqb}
-use Rattle.words.specs.Lists.{any, all, keep, isEmpty, All}
-use Rattle.words.specs.ListFacts.{tested, clash, same-test, or-cases, or-left, or-right, or-none, any-found, any-holds, in-at}
+use borrow.Author.Tests.{eqb-true}
+use Rattle.words.specs.Lists.{any, all, isEmpty}
+use Rattle.words.specs.ListFacts.{clash, same-test, or-cases, or-left, or-right, or-none, any-found, any-holds, in-at}
 use Rattle.meaning.specs.Model.{Bounds}
-use Rattle.meaning.specs.Log.{Atom, Fact}
+use Rattle.meaning.specs.Log.{Atom}
 use Rattle.meaning.specs.Box.{metBy, declaredAt, left, anyEmpty, boxOf, addNegated, negated}
-use Rattle.meaning.specs.Proved.ReadModel.{KnownBounds}
 use Rattle.meaning.specs.Proved.Narrow.{keep-all}
 use Rattle.meaning.specs.Proved.Below.{up-to}
-use Rattle.domain.specs.Box.{values, Room, loaded}
+use Rattle.domain.specs.Box.{Room, loaded}
 use Rattle.domain.specs.Box.Narrow.{narrowed-room, room-one}
 use Rattle.bridge.specs.Agrees.{Agrees, agrees-words, agrees-words-last, agrees-negated}
 use Rattle.bridge.specs.Answers.{empty-left}
 use Rattle.reading.specs.At.{natAt, intAt, eachAt, length-each, getD-each}
 use Rattle.steps.specs.Facts.{AtomIn, FactIn, atomAt, thenAt, factOf}
 use Rattle.steps.specs.declared.FactPlace.{FactPlace}
-use Rattle.judging.specs.Boxes.{AtomsIn, narrowedAt, narrowedNot, narrowedEach, narrowedThen, filled, emptyAt, emptyEach, emptyThen, boxEmpty}
+use Rattle.judging.specs.InTurn.{inTurn, fromAll}
+use Rattle.judging.specs.Boxes.{AtomsIn, narrowedAt, narrowedNot, narrowedEach, narrowedThen, filled, emptyEach, emptyThen, boxEmpty}
 
 -- the atoms after the first
 pub atoms-rest : {v : ℕ} {log : List ℤ} (p n : ℕ) → AtomsIn v log p (suc n) → AtomsIn v log (p + 3) n
@@ -69,7 +69,7 @@ module _ (log : List ℤ) (bs : List Bounds) where
       }
 
   pub holds-each : (n p k : ℕ) (atoms : List Atom) (cells : List ℤ) → AtomsIn (length bs) log p n → Holds atoms (n + k) cells → Holds (atoms ++ eachAt atomAt 3 n log p) k (narrowedEach log n p cells)
-  unfolding narrowedEach eachAt
+  unfolding inTurn eachAt
   holds-each zero p k atoms cells a h = record { agrees = subst (Agrees cells bs) (sym (append-nil atoms)) (h .agrees); room = room-fewer cells (omega arith) (h .room) }
   holds-each (suc n) p k atoms cells a h =
       let h′ : Holds atoms (suc (n + k)) cells = record { agrees = h .agrees; room = room-fewer cells (omega arith) (h .room) } in
@@ -134,7 +134,7 @@ module _ (log : List ℤ) (cells : List ℤ) (bs : List Bounds) (atoms : List At
   emptied a = isEmpty (left bs atoms (a .variable))
 
   each-emptied : (n p : ℕ) → emptyEach log n p cells ≡ any emptied (eachAt atomAt 3 n log p)
-  unfolding emptyEach eachAt
+  unfolding fromAll eachAt
   each-emptied zero p = refl
   each-emptied (suc n) p = ap₂ _||_ (empty-left cells bs atoms agrees (natAt log p)) (each-emptied n (p + 3))
 

@@ -1,15 +1,14 @@
 -- The hints of a deduction, taken in order from a box in its table.
-use Prim.Native.Nat.{ℕ, zero, suc, _+_, _*_, _-_, _≤_, _<_}
+use Prim.Native.Nat.{ℕ, zero, suc, _+_, _-_, _≤_, _<_}
 use mathlib.Core.Path.{_≡_, refl, sym, ap, ap₂, subst, _∙_}
 use mathlib.Core.Bool.{Bool, true, false, _&&_}
-use mathlib.Core.List.{List, [], _∷_, _++_}
-use mathlib.Core.Option.{none, some}
+use mathlib.Core.List.{List, [], _∷_}
 use native.Mathlib.Omega.{arith}
 use native.Mathlib.Nat.{sub-zero}
 use native.Mathlib.Numerals.{add-one}
-use lib.IntN.{ℤ, natAbs}
+use lib.IntN.{ℤ}
 use lib.ListN.{length}
-use Rattle.words.specs.Lists.{all, isEmpty}
+use Rattle.words.specs.Lists.{all}
 use Rattle.meaning.specs.Model.{Bounds}
 use Rattle.meaning.specs.Log.{Atom, Fact}
 use Rattle.meaning.specs.Box.{left}
@@ -20,6 +19,7 @@ use Rattle.bridge.specs.Answers.{holds-left, empty-left}
 use Rattle.reading.specs.At.{natAt, intAt, eachAt}
 use Rattle.steps.specs.Facts.{AtomIn, FactIn, atomAt, thenAt, factOf}
 use Rattle.steps.specs.declared.FactPlace.{FactPlace}
+use Rattle.judging.specs.InTurn.{fromAll}
 use Rattle.judging.specs.Boxes.{AtomsIn, narrowedAt, emptyAt}
 use Rattle.judging.specs.Filled.{Holds, holds-front, atoms-first, atoms-rest}
 
@@ -27,40 +27,16 @@ use Rattle.judging.specs.Filled.{Holds, holds-front, atoms-first, atoms-
 abbrev pub holdsAt : List ℤ → ℕ → List ℤ → Bool
 holdsAt log p cells = all (stands (intAt log (p + 1)) (intAt log (p + 2))) (values cells (natAt log p))
 
-unfoldable pub holdsEach : List ℤ → ℕ → ℕ → List ℤ → Bool
-holdsEach log zero p cells = true
-holdsEach log (suc n) p cells = holdsAt log p cells && holdsEach log n (p + 3) cells
+abbrev pub andHolds : List ℤ → List ℤ → ℕ → Bool → Bool
+andHolds log cells p b = holdsAt log p cells && b
 
--- a loop over n atoms from p: what is left after j of them
-module _ (log : List ℤ) (n p : ℕ) (cells : List ℤ) where
-  suc-left : (j : ℕ) → j < n → n - j ≡ suc (n - (j + 1))
-  suc-left j h = omega arith
-
-  next-at : (j : ℕ) → p + j * 3 + 3 ≡ p + (j + 1) * 3
-  next-at j = omega arith
-
-  abbrev pub leftToHold : ℕ → Bool
-  leftToHold j = holdsEach log (n - j) (p + j * 3) cells
-
-  pub hold-all : holdsEach log n p cells ≡ leftToHold 0
-  hold-all = let q : p + 0 * 3 ≡ p = omega arith in rw (q, sub-zero)
-
-  pub hold-more : (j : ℕ) → j < n → holdsAt log (p + j * 3) cells ≡ true → leftToHold j ≡ leftToHold (j + 1)
-  unfolding holdsEach
-  hold-more j h e = rw (suc-left j h, e, ← next-at j)
-
-  pub hold-not : (j : ℕ) → j < n → holdsAt log (p + j * 3) cells ≡ false → leftToHold j ≡ false
-  unfolding holdsEach
-  hold-not j h e = rw (suc-left j h, e)
-
-  pub hold-end : (j : ℕ) → n ≤ j → leftToHold j ≡ true
-  unfolding holdsEach
-  hold-end j h = let z : n - j ≡ 0 = omega arith in rw z
+abbrev pub holdsEach : List ℤ → ℕ → ℕ → List ℤ → Bool
+holdsEach log n p cells = fromAll (andHolds log cells) true n p
 
 -- ---- against the meaning
 module _ (log : List ℤ) (bs : List Bounds) (box : List Atom) (cells : List ℤ) (agrees : Agrees cells bs box) where
   pub holds-is : (n p : ℕ) → AtomsIn (length bs) log p n → holdsEach log n p cells ≡ premisesHold bs box (eachAt atomAt 3 n log p)
-  unfolding holdsEach eachAt
+  unfolding fromAll eachAt
   holds-is zero p a = refl
   holds-is (suc n) p a =
       let i = atoms-first p n a in

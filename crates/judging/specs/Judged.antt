@@ -1,22 +1,22 @@
 -- A fact's box in the table of cells, judged: against a row, and by the hints.
 use Prim.Native.Nat.{ℕ, suc, _+_, _*_, _≤_, _<_}
-use mathlib.Core.Path.{_≡_, refl, sym, ap, ap₂, subst, _∙_}
+use mathlib.Core.Path.{_≡_, sym, ap, ap₂, subst, _∙_}
 use mathlib.Core.Bool.{Bool, true, false}
-use mathlib.Core.List.{List, []}
+use mathlib.Core.List.{List}
 use native.Mathlib.Omega.{arith}
 use lib.IntN.{ℤ}
 use lib.ListN.{length, getD}
 use Rattle.words.specs.Lists.{All}
-use Rattle.meaning.specs.Model.{Bounds, Row}
+use Rattle.meaning.specs.Model.{Bounds}
 use Rattle.meaning.specs.Log.{Atom, Fact}
 use Rattle.meaning.specs.Box.{left, anyEmpty, boxOf}
 use Rattle.meaning.specs.Rule.{conflicts}
 use Rattle.meaning.specs.Judge as judge
-use Rattle.meaning.specs.Judge.{judgeInference, judgeDeduction, followHints, inferred, deduced, passes, fails, Verdict}
+use Rattle.meaning.specs.Judge.{judgeInference, judgeDeduction, followHints, inferred, deduced, fails, Verdict}
 use Rattle.meaning.specs.Proved.ReadModel.{KnownBounds}
-use Rattle.domain.specs.Box.{variables, values, Formed, Room, loaded}
+use Rattle.domain.specs.Box.{variables, values, Formed}
 use Rattle.domain.specs.Box.Load.{loaded-room}
-use Rattle.bridge.specs.Agrees.{Agrees, agrees-loaded}
+use Rattle.bridge.specs.Agrees.{agrees-loaded}
 use Rattle.bridge.specs.Answers.{all-some, all-small}
 use Rattle.reading.specs.At.{eachAt}
 use Rattle.model.specs.Rows.{boundsAt, rowAt}

@@ -7,7 +7,7 @@ use steps::FactPlace;
 use words::FactNo;
 ghost use mathlib.Core.Path.{_≡_};
 ghost use mathlib.Core.List.{map};
-ghost use Prim.Native.Nat.{_+_, _*_, _≤_, _<_};
+ghost use Prim.Native.Nat.{_+_, _*_, _≤_};
 ghost use lib.ListN.{length, take};
 ghost use Rattle.meaning.specs.Judge.{judgeDeduction};
 ghost use Rattle.meaning.specs.Check.{factAt};

@@ -1,16 +1,32 @@
 // An inference: its row conflicts with the box of its fact.
 use crate::Verdict;
 use crate::boxes;
+use crate::occurrences;
 use rules;
 use steps::FactPlace;
 use words::RowNo;
 ghost use mathlib.Core.Path.{_≡_};
 ghost use Prim.Native.Nat.{_+_, _*_, _≤_, _<_};
 ghost use lib.ListN.{length};
-ghost use Rattle.meaning.specs.Judge.{judgeInference, rowAt};
+ghost use Rattle.meaning.specs.Judge as judge;
+ghost use Rattle.meaning.specs.Judge.{judgeInference};
+ghost use Rattle.meaning.specs.Rule.{conflicts};
+ghost use Rattle.domain.specs.Box.{variables, values};
+ghost use Rattle.model.specs.Rows.{RowIn, rowAt};
+ghost use Rattle.rules.specs.Ready.{Ready};
 ghost use Rattle.model.specs.Planned.{modelOf, Planned};
 ghost use Rattle.steps.specs.Facts.{FactIn, factOf};
 ghost use Rattle.judging.specs.Told.{toldVerdict};
+
+// Does the row whose kind stands at a position conflict with the box of the fact? The marks have a bit for each of 256 variables.
+fn row_conflicts(model: &[i32], at: usize, log: &[i32], fact: FactPlace, cells: &[i32]) -> bool
+    requires { ⌜ RowIn (variables (now cells)) (now model) at × FactIn (variables (now cells)) (now log) fact × (variables (now cells) ≤ 256) × Ready (now cells) ⌝ }
+    ensures { λ r. ⌜ r ≡ conflicts (factOf (now (log .entry)) fact) (values (now (cells .entry))) (rowAt (now (model .entry)) at) ⌝ }
+{
+    let mut occurring = [0u64; 4];
+    occurrences::mark(log, fact, &mut occurring);
+    rules::conflicts(model, at, &occurring, cells)
+}
 
 pub fn inference(
     model: &[i32],
@@ -23,7 +39,7 @@ pub fn inference(
     cells: &mut [i32],
 ) -> Verdict
     requires { ⌜ Planned (now model) (now starts) v rows × (r .0 < rows) × FactIn v (now log) fact × (2 * v + 2 * 81 + 2 ≤ length (now cells)) ⌝ }
-    ensures { λ w. ⌜ toldVerdict w ≡ judgeInference (modelOf (now (model .entry)) .bounds) (rowAt (modelOf (now (model .entry))) (r .0)) (factOf (now (log .entry)) fact) ⌝ }
+    ensures { λ w. ⌜ toldVerdict w ≡ judgeInference (modelOf (now (model .entry)) .bounds) (judge.rowAt (modelOf (now (model .entry))) (r .0)) (factOf (now (log .entry)) fact) ⌝ }
 {
     boxes::fill(model, v, log, fact, &mut *cells);
     if boxes::is_box_empty(log, fact, &*cells) {
@@ -31,7 +47,7 @@ pub fn inference(
     }
     let i = r.0;
     let at = starts[i] as usize;
-    if rules::conflicts(model, at, log, fact, &*cells) {
+    if row_conflicts(model, at, log, fact, &*cells) {
         return Verdict::Passes;
     }
     Verdict::Fails(21, 0)

@@ -3,6 +3,7 @@ pub mod boxes;
 pub mod conclusions;
 pub mod deductions;
 pub mod inferences;
+pub mod occurrences;
 
 use steps;
 use steps::FactPlace;

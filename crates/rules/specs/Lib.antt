@@ -1,4 +1,5 @@
 pub mod Ready
+pub mod Occurring
 pub mod Each
 pub mod Linear
 pub mod Distinct

@@ -1,48 +1,20 @@
-// All-different rows: the row's variables that occur in the fact have fewer values left than they are.
+// All-different rows: the row's variables that occur in the fact have fewer values left than they are. Which occur, a set of marks says.
 use domain::Next;
 use reading::number_at;
-use steps::FactPlace;
 use words::VarNo;
 ghost use mathlib.Core.Path.{_≡_};
 ghost use mathlib.Core.Option.{none};
-ghost use Prim.Native.Nat.{_+_, _≤_, _<_};
+ghost use Prim.Native.Nat.{_+_, _*_, _≤_, _<_};
 ghost use lib.ListN.{length, take};
 ghost use Rattle.words.specs.Lists.{keep, All};
-ghost use Rattle.meaning.specs.Rule.{occurs, crowded};
+ghost use Rattle.meaning.specs.Rule.{crowded};
+ghost use Rattle.marks.specs.Marks.{marked};
 ghost use Rattle.reading.specs.At.{natAt, eachAt};
 ghost use Rattle.model.specs.Rows.{Counted, VariablesIn};
-ghost use Rattle.steps.specs.Facts.{factOf, FactIn};
 ghost use Rattle.domain.specs.Box.{Formed, variables, values};
 ghost use Rattle.domain.specs.Told.{toldNext};
 ghost use Rattle.rules.specs.Ready.{Ready};
 ghost use Rattle.rules.specs.Soonest.{sooner, soonestOf};
-ghost use Rattle.rules.specs.AllDifferent.{AtomsIn, FactAtoms, NamesIn, among};
-
-// Whether one of `count` atoms from `at` on is about `x`.
-fn among(log: &[i32], at: usize, count: usize, x: usize) -> bool
-    requires { ⌜ AtomsIn (now log) at count ⌝ }
-    ensures { λ r. ⌜ r ≡ among (now (log .entry)) at count x ⌝ }
-{
-    let mut i: usize = 0;
-    while i < count {
-        if x == number_at(log, at + i * 3) {
-            return true;
-        }
-        i += 1;
-    }
-    false
-}
-
-// Whether `x` occurs in the fact, in a premise or in the consequent.
-fn occurs(log: &[i32], fact: FactPlace, x: usize) -> bool
-    requires { ⌜ FactAtoms (now log) fact ⌝ }
-    ensures { λ r. ⌜ r ≡ occurs (factOf (now (log .entry)) fact) x ⌝ }
-{
-    if among(log, fact.premises, fact.count, x) {
-        return true;
-    }
-    among(log, fact.consequent, fact.then, x)
-}
 
 // The smaller of two values, where there are two.
 fn sooner(a: Next, b: Next) -> Next
@@ -89,17 +61,17 @@ fn crowded(cells: &[i32], xs: &[usize]) -> bool
     false
 }
 
-// The row's variables that occur in the fact, in the row's order: how many they are, and each in a place of `chosen`.
-fn choose(model: &[i32], p: usize, log: &[i32], fact: FactPlace, chosen: &mut [usize]) -> usize
-    requires { ⌜ Counted 2 (now model) p × NamesIn (now model) (p + 1) (natAt (now model) p) × FactAtoms (now log) fact × (length (now chosen) ≡ 16) ⌝ }
-    ensures { λ r. ⌜ (r ≤ 16) × (take r (now (chosen .exit)) ≡ keep (occurs (factOf (now (log .entry)) fact)) (eachAt natAt 1 (natAt (now (model .entry)) p) (now (model .entry)) (p + 1))) ⌝ }
+// The row's variables that occur, in the row's order: how many they are, and each in a place of `chosen`.
+fn choose(model: &[i32], p: usize, occurring: &[u64], chosen: &mut [usize]) -> usize
+    requires { ⌜ Counted 2 (now model) p × VariablesIn (64 * length (now occurring)) (now model) (p + 1) (natAt (now model) p) × (length (now chosen) ≡ 16) ⌝ }
+    ensures { λ r. ⌜ (r ≤ 16) × (take r (now (chosen .exit)) ≡ keep (marked (now (occurring .entry))) (eachAt natAt 1 (natAt (now (model .entry)) p) (now (model .entry)) (p + 1))) ⌝ }
 {
     let n = number_at(model, p);
     let mut count: usize = 0;
     let mut i: usize = 0;
     while i < n {
         let x = number_at(model, p + 1 + i);
-        if occurs(log, fact, x) {
+        if marks::holds(occurring, x) {
             chosen[count] = x;
             count += 1;
         }
@@ -108,13 +80,13 @@ fn choose(model: &[i32], p: usize, log: &[i32], fact: FactPlace, chosen: &mut [u
     count
 }
 
-// Whether the row's variables that occur in the fact have fewer values left than they are. The row's words after its kind begin at `p`:
+// Whether the row's variables that occur have fewer values left than they are. The row's words after its kind begin at `p`:
 // how many variables, the variables.
-pub fn conflicts(model: &[i32], p: usize, log: &[i32], fact: FactPlace, cells: &[i32]) -> bool
-    requires { ⌜ Counted 2 (now model) p × VariablesIn (variables (now cells)) (now model) (p + 1) (natAt (now model) p) × FactIn (variables (now cells)) (now log) fact × Ready (now cells) ⌝ }
-    ensures { λ r. ⌜ r ≡ crowded (values (now (cells .entry))) (keep (occurs (factOf (now (log .entry)) fact)) (eachAt natAt 1 (natAt (now (model .entry)) p) (now (model .entry)) (p + 1))) ⌝ }
+pub fn conflicts(model: &[i32], p: usize, occurring: &[u64], cells: &[i32]) -> bool
+    requires { ⌜ Counted 2 (now model) p × VariablesIn (variables (now cells)) (now model) (p + 1) (natAt (now model) p) × (variables (now cells) ≤ 64 * length (now occurring)) × Ready (now cells) ⌝ }
+    ensures { λ r. ⌜ r ≡ crowded (values (now (cells .entry))) (keep (marked (now (occurring .entry))) (eachAt natAt 1 (natAt (now (model .entry)) p) (now (model .entry)) (p + 1))) ⌝ }
 {
     let mut chosen = [0usize; 16];
-    let count = choose(model, p, log, fact, &mut chosen);
+    let count = choose(model, p, occurring, &mut chosen);
     crowded(cells, &chosen[..count])
 }

@@ -5,19 +5,19 @@ pub mod cumulative;
 pub mod linear;
 
 use reading::number_at;
-use steps::FactPlace;
 use words::VarNo;
 ghost use mathlib.Core.Path.{_≡_};
-ghost use Prim.Native.Nat.{_<_};
+ghost use Prim.Native.Nat.{_*_, _≤_, _<_};
 ghost use lib.IntN.{pos};
 ghost use lib.ListN.{length, getD};
 ghost use lib.Signed.{_≤ℤ_};
+ghost use Rattle.meaning.specs.Log.{Fact};
 ghost use Rattle.meaning.specs.Rule.{conflicts};
 ghost use Rattle.domain.specs.Box.{variables, values};
 ghost use Rattle.reading.specs.At.{natAt};
 ghost use Rattle.model.specs.Rows.{RowIn, rowAt};
-ghost use Rattle.steps.specs.Facts.{FactIn, factOf};
 ghost use Rattle.rules.specs.Ready.{Ready};
+ghost use Rattle.rules.specs.Occurring.{Occurring};
 
 // The variable whose number stands at a position of a table that was read well before.
 pub fn variable_at(s: &[i32], at: usize) -> VarNo
@@ -27,17 +27,17 @@ pub fn variable_at(s: &[i32], at: usize) -> VarNo
     VarNo(number_at(s, at))
 }
 
-// Does the row whose kind stands at `at` conflict with the box? The fact tells all-different which variables count.
-pub fn conflicts(model: &[i32], at: usize, log: &[i32], fact: FactPlace, cells: &[i32]) -> bool
-    requires { ⌜ RowIn (variables (now cells)) (now model) at × FactIn (variables (now cells)) (now log) fact × Ready (now cells) ⌝ }
-    ensures { λ r. ⌜ r ≡ conflicts (factOf (now (log .entry)) fact) (values (now (cells .entry))) (rowAt (now (model .entry)) at) ⌝ }
+// Does the row whose kind stands at `at` conflict with the box, for a fact in which just the marked variables occur? All-different alone asks.
+pub fn conflicts(model: &[i32], at: usize, occurring: &[u64], cells: &[i32]) -> bool
+    requires { ⌜ RowIn (variables (now cells)) (now model) at × (variables (now cells) ≤ 64 * length (now occurring)) × Ready (now cells) ⌝ }
+    ensures { λ r. ⌜ ((f : Fact) → Occurring f (now (occurring .entry)) → r ≡ conflicts f (values (now (cells .entry))) (rowAt (now (model .entry)) at)) ⌝ }
 {
     let kind = number_at(model, at);
     if kind == 1 {
         return linear::conflicts(model, at + 1, cells);
     }
     if kind == 2 {
-        return all_different::conflicts(model, at + 1, log, fact, cells);
+        return all_different::conflicts(model, at + 1, occurring, cells);
     }
     if kind == 3 {
         return cumulative::conflicts(model, at + 1, cells);

@@ -1,8 +1,7 @@
-use Prim.Native.Nat.{_+_, _*_}
-use mathlib.Core.Path.{_≡_, ap, _∙_}
+use Prim.Native.Nat.{_+_}
 use native.Mathlib.Omega.{arith}
 use denote.Ref.{now}
-use Rattle.judging.specs.Boxes.{narrowedEach, narrowedThen, Boxed, boxed-loaded, boxed-each, boxed-less}
+use Rattle.judging.specs.Boxes.{Boxed, boxed-loaded, boxed-each, boxed-less}
 use borrow.Author.Needs.{needs}
 use Rattle.judging.proofs.boxes.fill.Statement.{statement}
 use Rattle.judging.proofs.boxes.fill.Tie as tie

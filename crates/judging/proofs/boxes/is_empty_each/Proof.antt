@@ -1,15 +1,17 @@
 use Prim.Native.Nat.{_+_, _*_, _-_, _≤_}
+use mathlib.Core.Bool.{false}
 use mathlib.Core.Path.{_≡_, _∙_, sym}
 use native.Mathlib.Omega.{arith}
 use denote.Ref.{now}
 use lib.ListN.{length}
-use Rattle.judging.specs.Boxes.{emptyEach, empty-all, empty-here, empty-more, empty-none}
+use Rattle.judging.specs.InTurn.{rest, rest-all, rest-more, rest-none}
+use Rattle.judging.specs.Boxes.{orEmpty, emptyEach}
 use borrow.Author.Needs.{needs}
 use Rattle.judging.proofs.boxes.is_empty_each.Statement.{statement}
 use Rattle.judging.proofs.boxes.is_empty_each.Tie as tie
 
 abbrev Inv-loop : tie.InvT-loop
-Inv-loop log from count cells i₀ i = (i ≤ count) × (emptyEach log count from cells ≡ emptyEach log (count - i) (from + i * 3) cells)
+Inv-loop log from count cells i₀ i = (i ≤ count) × (emptyEach log count from cells ≡ rest (orEmpty log cells) count from false i)
 
 abbrev μ-loop : tie.MeasureT-loop
 μ-loop log from count cells i₀ i = count - i
@@ -25,17 +27,17 @@ returns c =
     let d = c .before .before in
     let l = d .before in
     let a = l .before .args in
-    sym (l .loop .inv .1 ∙ empty-here (now (a .log)) (a .count) (a .from) (l .loop .i) (now (a .cells)) (d .loop-test .taken) (sym (c .before .is-empty-at .ensures) ∙ c .if1 .taken))
+    sym (l .loop .inv .1 ∙ rest-more (orEmpty (now (a .log)) (now (a .cells))) (a .count) (a .from) false (l .loop .i) (d .loop-test .taken) ∙ rw (sym (c .before .is-empty-at .ensures) ∙ c .if1 .taken))
 
 loop-again : tie.Need-loop-again Inv-loop μ-loop
 loop-again c =
     let d = c .before .before in
     let l = d .before in
     let a = l .before .args in
-    (omega (arith, d .loop-test .taken), l .loop .inv .1 ∙ empty-more (now (a .log)) (a .count) (a .from) (l .loop .i) (now (a .cells)) (d .loop-test .taken) (sym (c .before .is-empty-at .ensures) ∙ c .if1 .left))
+    (omega (arith, d .loop-test .taken), l .loop .inv .1 ∙ rest-more (orEmpty (now (a .log)) (now (a .cells))) (a .count) (a .from) false (l .loop .i) (d .loop-test .taken) ∙ rw (sym (c .before .is-empty-at .ensures) ∙ c .if1 .left))
 
 returns-2 : tie.Need-returns-2 Inv-loop μ-loop
-returns-2 c = let l = c .before in let a = l .before .args in sym (l .loop .inv .1 ∙ empty-none (now (a .log)) (a .count) (a .from) (l .loop .i) (now (a .cells)) (c .loop-test .left))
+returns-2 c = let l = c .before in let a = l .before .args in sym (l .loop .inv .1 ∙ rest-none (orEmpty (now (a .log)) (now (a .cells))) (a .count) (a .from) false (l .loop .i) (c .loop-test .left))
 
 pub is-empty-each-spec : {M : Type 1} → statement M
 is-empty-each-spec =
@@ -43,7 +45,7 @@ is-empty-each-spec =
     (tie.spec
     Inv-loop
     μ-loop
-    (λ c. let a = c .args in (omega arith, empty-all (now (a .log)) (a .count) (a .from) (now (a .cells))))
+    (λ c. let a = c .args in (omega arith, rest-all (orEmpty (now (a .log)) (now (a .cells))) (a .count) (a .from) false))
     (λ c. let h = inside c in record { fits = omega arith })
     (λ c. let h = inside c in record { fits = omega arith })
     is-empty-at-requires

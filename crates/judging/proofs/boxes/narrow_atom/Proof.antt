@@ -1,5 +1,4 @@
 use Prim.Native.Nat.{_+_}
-use mathlib.Core.Path.{_∙_, sym, ap}
 use lib.IntN.{pos}
 use lib.ListN.{getD}
 use denote.Ref.{now}

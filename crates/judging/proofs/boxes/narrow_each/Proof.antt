@@ -7,7 +7,8 @@ use native.Mathlib.Omega.{arith}
 use denote.Ref.{now}
 use lib.ListN.{length}
 use Rattle.domain.specs.Box.{variables}
-use Rattle.judging.specs.Boxes.{narrowedEach, each-all, each-more, each-none, Boxed, boxed-narrowed, boxed-less}
+use Rattle.judging.specs.Boxes.{narrowedAt, narrowedEach, Boxed, boxed-narrowed}
+use Rattle.judging.specs.InTurn.{turn-all, turn-more, turn-none}
 use borrow.Author.Needs.{needs}
 use Rattle.judging.proofs.boxes.narrow_each.Statement.{statement}
 use Rattle.judging.proofs.boxes.narrow_each.Tie as tie
@@ -48,11 +49,11 @@ loop-again c =
       omega (arith, t),
       w .narrow-atom .kept .1 .1 .0 ∙ l .loop .inv .1,
       rw e (boxed-narrowed (l .loop .cells) (natAt log (a .from + i * 3)) _ _ b (o .pre .0 i t .named .known)),
-      rw e (l .loop .inv .3 ∙ each-more log (a .count) (a .from) i (l .loop .cells) t),
+      rw e (l .loop .inv .3 ∙ turn-more (narrowedAt log) (a .count) (a .from) i (l .loop .cells) t),
     )
 
 returns : tie.Need-returns Inv-loop μ-loop
-returns c = let l = c .before in let a = l .before .args in sym (l .loop .inv .3 ∙ each-none (now (a .log)) (a .count) (a .from) (l .loop .i) (l .loop .cells) (c .loop-test .left))
+returns c = let l = c .before in let a = l .before .args in sym (l .loop .inv .3 ∙ turn-none (narrowedAt (now (a .log))) (a .count) (a .from) (l .loop .i) (l .loop .cells) (c .loop-test .left))
 
 pub narrow-each-spec : {M : Type 1} → statement M
 narrow-each-spec =
@@ -60,7 +61,7 @@ narrow-each-spec =
     (tie.spec
     Inv-loop
     μ-loop
-    (λ c. let a = c .args in let p = c .pre in (omega arith, refl, record { formed = p .1; counted = refl; room = rw sub-zero (p .2) }, each-all (now (a .log)) (a .count) (a .from) (now (a .cells))))
+    (λ c. let a = c .args in let p = c .pre in (omega arith, refl, record { formed = p .1; counted = refl; room = rw sub-zero (p .2) }, turn-all (narrowedAt (now (a .log))) (a .count) (a .from) (now (a .cells))))
     (λ c. let h = inside c in record { fits = omega arith })
     (λ c. let h = inside c in record { fits = omega arith })
     narrow-atom-requires

@@ -1,5 +1,4 @@
 use Prim.Native.Nat.{_+_}
-use mathlib.Core.Path.{_∙_, sym, ap}
 use lib.IntN.{pos}
 use lib.ListN.{getD}
 use denote.Ref.{now}
@@ -7,7 +6,6 @@ use mir.Syntax.{w32}
 use mir.Facts.{toZ-ofZ}
 use Rattle.words.specs.Int.{fit}
 use native.Mathlib.Omega.{arith}
-use lib.IntN.{negsuc}
 use Rattle.words.specs.Int.{zz, abs-is, one-side}
 use borrow.Author.Needs.{needs}
 use Rattle.judging.proofs.boxes.narrow_negated.Statement.{statement}

@@ -1,6 +1,6 @@
 -- Before each hint `Sofar` holds; the scan of its premises keeps what is left of them to hold.
-use Prim.Native.Nat.{ℕ, suc, pred, _+_, _*_, _-_, _≤_, _<_}
-use mathlib.Core.Path.{_≡_, refl, sym, ap, _∙_}
+use Prim.Native.Nat.{suc, pred, _+_, _*_, _-_, _≤_, _<_}
+use mathlib.Core.Path.{_≡_, refl, sym, _∙_}
 use mathlib.Core.Bool.{true}
 use mathlib.Core.List.{map}
 use native.Mathlib.Omega.{arith}
@@ -12,14 +12,15 @@ use Rattle.meaning.specs.Check.{factAt}
 use Rattle.domain.specs.Box.Narrow.{room-one}
 use Rattle.reading.specs.At.{natAt, Names}
 use Rattle.steps.specs.Facts.{FactIn, factOf, madeFact}
-use Rattle.judging.specs.Boxes.{Boxed, boxed-narrowed, narrowedAt}
+use Rattle.judging.specs.Boxes.{Boxed, boxed-narrowed}
+use Rattle.judging.specs.InTurn.{rest, rest-all, rest-more, rest-none}
 use Rattle.judging.specs.Conclusions.{cited-is}
-use Rattle.judging.specs.Following.{holdsEach, leftToHold, hold-all, hold-more, hold-not, hold-end, Sofar, at-first, used-up, not-held, is-false, emptied, narrowed-on}
+use Rattle.judging.specs.Following.{andHolds, holdsEach, Sofar, at-first, used-up, not-held, is-false, emptied, narrowed-on}
 use Rattle.judging.proofs.deductions.follow.Statement.{statement}
 use Rattle.judging.proofs.deductions.follow.Tie as tie
 
 abbrev Inv-loop : tie.InvT-loop
-Inv-loop log places v k hints many cells i n f j₀ j = (j ≤ f .count) × (holdsEach log (f .count) (f .premises) cells ≡ leftToHold log (f .count) (f .premises) cells j)
+Inv-loop log places v k hints many cells i n f j₀ j = (j ≤ f .count) × (holdsEach log (f .count) (f .premises) cells ≡ rest (andHolds log cells) (f .count) (f .premises) true j)
 
 abbrev μ-loop : tie.MeasureT-loop
 μ-loop log places v k hints many cells i n f j₀ j = f .count - j
@@ -76,7 +77,7 @@ loop-again c =
     let h = w .before .before .before in
     let f = w .cited .result in (
       omega (arith, e .if2 .left),
-      l .loop .inv .1 ∙ hold-more (now (h .before .before .args .log)) (f .count) (f .premises) (h .hint .cells) (l .loop .j) (e .if2 .left) (sym (y .holds-at .ensures) ∙ c .if3 .taken),
+      l .loop .inv .1 ∙ rest-more (andHolds (now (h .before .before .args .log)) (h .hint .cells)) (f .count) (f .premises) true (l .loop .j) (e .if2 .left) ∙ rw (sym (y .holds-at .ensures) ∙ c .if3 .taken),
     )
 
 -- all of them hold
@@ -86,7 +87,7 @@ held c =
     let l = c .before .before in
     let w = l .before in
     let h = w .before .before .before in
-    l .loop .inv .1 ∙ hold-end (now (h .before .before .args .log)) (w .cited .result .count) (w .cited .result .premises) (h .hint .cells) (l .loop .j) (c .if2 .taken)
+    l .loop .inv .1 ∙ rest-none (andHolds (now (h .before .before .args .log)) (h .hint .cells)) (w .cited .result .count) (w .cited .result .premises) true (l .loop .j) (c .if2 .taken)
 
 -- ---- its consequent
 one : (c : tie.Else4 Inv-loop μ-loop Inv-hint μ-hint) → c .before .before .before .before .before .cited .result .then ≡ 1
@@ -152,7 +153,7 @@ returns-2 c =
     let h = x .before in
     let f = w .cited .result in
     not-held _ _ _ _ _ _ (h .hint .cells) (h .hint .i) (h .hint .inv .3) (x .if1 .left) f (fact-in w) (fact-is w)
-    (l .loop .inv .1 ∙ hold-not (now (h .before .before .args .log)) (f .count) (f .premises) (h .hint .cells) (l .loop .j) (e .if2 .left) (sym (y .holds-at .ensures) ∙ c .if3 .left))
+    (l .loop .inv .1 ∙ rest-more (andHolds (now (h .before .before .args .log)) (h .hint .cells)) (f .count) (f .premises) true (l .loop .j) (e .if2 .left) ∙ rw (sym (y .holds-at .ensures) ∙ c .if3 .left))
 
 returns-3 : tie.Need-returns-3 Inv-loop μ-loop Inv-hint μ-hint
 returns-3 c =
@@ -185,7 +186,7 @@ follow-spec =
     (λ c. let h = named c in record { fits = omega (arith, h .inside) })
     number-at-requires
     cited-requires
-    (λ c. let o = c .before .before .before .before .before in let f = c .cited .result in (omega arith, hold-all (now (o .args .log)) (f .count) (f .premises) (c .before .before .before .hint .cells)))
+    (λ c. let o = c .before .before .before .before .before in let f = c .cited .result in (omega arith, rest-all (andHolds (now (o .args .log)) (c .before .before .before .hint .cells)) (f .count) (f .premises) true))
     (λ c. let h = premise-fits c in record { fits = omega arith })
     (λ c. let h = premise-fits (c .before) in record { fits = omega arith })
     holds-at-requires

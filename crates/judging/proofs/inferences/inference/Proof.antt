@@ -1,11 +1,7 @@
-use Prim.Native.Nat.{_+_, _*_}
 use mathlib.Core.Bool.{true, false}
-use mathlib.Core.Path.{_≡_, sym, ap, _∙_}
+use mathlib.Core.Path.{sym, _∙_}
 use native.Mathlib.Omega.{arith}
 use denote.Ref.{now}
-use Rattle.meaning.specs.Judge.{inferred}
-use Rattle.rules.specs.Ready.{Ready}
-use Rattle.judging.specs.Boxes.{boxEmpty, filled}
 use Rattle.judging.specs.Judged.{full-formed, full-variables, ready, empty-so, row-so}
 use borrow.Author.Needs.{needs}
 use Rattle.judging.proofs.inferences.inference.Statement.{statement}
@@ -32,8 +28,8 @@ returns c =
 cast-at : tie.Need-cast-at
 cast-at c = let o = c .before .before .before .before .before .before .before .before in record { fits = omega (arith, c .shared-slice-known2 .given (o .args .r .0)) }
 
-conflicts-requires : tie.Need-conflicts-requires
-conflicts-requires c κs =
+row-conflicts-requires : tie.Need-row-conflicts-requires
+row-conflicts-requires c κs =
     let e = c .before .before in
     let x = e .before in
     let d = x .before .before .before in
@@ -42,7 +38,7 @@ conflicts-requires c κs =
     let a = o .args in
     let q = d .fill .ensures in
     let no = rw q at (sym (x .is-box-empty .ensures) ∙ e .if1 .left) in
-    rw (q, full-variables (now (a .model)) (now (a .log)) (now (a .cells)) (now (a .starts)) (a .v) (a .rows) (a .fact) (p .0) (p .2) (p .3)) (p .0 .row-in (a .r .0) (p .1), p .2, ready (now (a .model)) (now (a .log)) (now (a .cells)) (now (a .starts)) (a .v) (a .rows) (a .fact) (p .0) (p .2) (p .3) no)
+    rw (q, full-variables (now (a .model)) (now (a .log)) (now (a .cells)) (now (a .starts)) (a .v) (a .rows) (a .fact) (p .0) (p .2) (p .3)) (p .0 .row-in (a .r .0) (p .1), p .2, omega (arith, p .0 .few-variables), ready (now (a .model)) (now (a .log)) (now (a .cells)) (now (a .starts)) (a .v) (a .rows) (a .fact) (p .0) (p .2) (p .3) no)
 
 returns-2 : tie.Need-returns-2
 returns-2 c =
@@ -54,7 +50,7 @@ returns-2 c =
     let p = o .pre in
     let a = o .args in
     let q = d .fill .ensures in
-    row-so (now (a .model)) (now (a .log)) (now (a .cells)) (now (a .starts)) (a .v) (a .rows) (a .fact) (p .0) (p .2) (p .3) (a .r .0) (p .1) (rw q at (sym (x .is-box-empty .ensures) ∙ e .if1 .left)) true (rw q at (sym (c .if2 .taken) ∙ y .conflicts .ensures))
+    row-so (now (a .model)) (now (a .log)) (now (a .cells)) (now (a .starts)) (a .v) (a .rows) (a .fact) (p .0) (p .2) (p .3) (a .r .0) (p .1) (rw q at (sym (x .is-box-empty .ensures) ∙ e .if1 .left)) true (rw q at (sym (c .if2 .taken) ∙ y .row-conflicts .ensures))
 
 returns-3 : tie.Need-returns-3
 returns-3 c =
@@ -66,7 +62,7 @@ returns-3 c =
     let p = o .pre in
     let a = o .args in
     let q = d .fill .ensures in
-    row-so (now (a .model)) (now (a .log)) (now (a .cells)) (now (a .starts)) (a .v) (a .rows) (a .fact) (p .0) (p .2) (p .3) (a .r .0) (p .1) (rw q at (sym (x .is-box-empty .ensures) ∙ e .if1 .left)) false (rw q at (sym (c .if2 .left) ∙ y .conflicts .ensures))
+    row-so (now (a .model)) (now (a .log)) (now (a .cells)) (now (a .starts)) (a .v) (a .rows) (a .fact) (p .0) (p .2) (p .3) (a .r .0) (p .1) (rw q at (sym (x .is-box-empty .ensures) ∙ e .if1 .left)) false (rw q at (sym (c .if2 .left) ∙ y .row-conflicts .ensures))
 
 pub inference-spec : {M : Type 1} → statement M
 inference-spec =
@@ -79,7 +75,7 @@ inference-spec =
     (λ c. search needs)
     (λ c. search needs)
     cast-at
-    conflicts-requires
+    row-conflicts-requires
     (λ c. search needs)
     returns-2
     (λ c. search needs)

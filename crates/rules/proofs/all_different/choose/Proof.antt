@@ -8,27 +8,26 @@ use native.Mathlib.Omega.{arith}
 use lib.ListN.{length, take, set, length-set}
 use denote.Ref.{now}
 use borrow.Author.Needs.{needs}
-use Rattle.meaning.specs.Rule.{occurs}
+use Rattle.marks.specs.Marks.{marked}
 use Rattle.reading.specs.At.{natAt}
-use Rattle.steps.specs.Facts.{factOf}
 use Rattle.rules.specs.AllDifferent.{chosen, toCome, chosen-start, chosen-taken, chosen-left, chosen-end}
 use Rattle.rules.proofs.all_different.choose.Statement.{statement}
 use Rattle.rules.proofs.all_different.choose.Tie as tie
 
 abbrev Inv-loop : tie.InvT-loop
-Inv-loop model p log fact places₀ n count₀ i₀ places count i =
-    (i ≤ natAt model p) × (count ≤ i) × (length places ≡ length places₀) × (take count places ++ toCome (occurs (factOf log fact)) (natAt model p) model (p + 1) i ≡ chosen (occurs (factOf log fact)) (natAt model p) model (p + 1))
+Inv-loop model p occurring places₀ n count₀ i₀ places count i =
+    (i ≤ natAt model p) × (count ≤ i) × (length places ≡ length places₀) × (take count places ++ toCome (marked occurring) (natAt model p) model (p + 1) i ≡ chosen (marked occurring) (natAt model p) model (p + 1))
 
 abbrev μ-loop : tie.MeasureT-loop
-μ-loop model p log fact places₀ n count₀ i₀ places count i = natAt model p - i
+μ-loop model p occurring places₀ n count₀ i₀ places count i = natAt model p - i
 
 number-at-requires : tie.Need-number-at-requires Inv-loop μ-loop
 number-at-requires c κs = search needs
 
 loop-holds : tie.Need-loop-holds Inv-loop μ-loop
 loop-holds c =
-    let a = c .before .before .args in
-    (omega arith, omega arith, refl, chosen-start (occurs (factOf (now (a .log)) (a .fact))) (natAt (now (a .model)) (a .p)) (now (a .model)) (a .p + 1))
+    let a = c .before .before .before .args in
+    (omega arith, omega arith, refl, chosen-start (marked (now (a .occurring))) (natAt (now (a .model)) (a .p)) (now (a .model)) (a .p + 1))
 
 add-number-at : tie.Need-add-number-at Inv-loop μ-loop
 add-number-at c = omega arith
@@ -38,11 +37,15 @@ add-number-at-2 c = omega arith
 
 number-at-requires-2 : tie.Need-number-at-requires-2 Inv-loop μ-loop
 number-at-requires-2 c κs =
-    let s = c .before .before .before .before in
-    (omega (arith, s .pre .1 .fits), s .pre .1 .signless (c .before .loop .i) (omega arith))
+    let s = c .before .before .before .before .before in
+    let n = s .pre .1 .named (c .before .loop .i) (omega arith) in
+    (n .inside, n .signless)
 
-occurs-requires : tie.Need-occurs-requires Inv-loop μ-loop
-occurs-requires c κs = c .before .before .before .before .before .pre .2
+holds-requires : tie.Need-holds-requires Inv-loop μ-loop
+holds-requires c κs =
+    let l = c .before .before in
+    let n = l .before .before .before .before .pre .1 .named (l .loop .i) (omega arith) in
+    rw (c .number-at2 .ensures) (n .known)
 
 mul-chosen : tie.Need-mul-chosen Inv-loop μ-loop
 mul-chosen c = omega arith
@@ -60,36 +63,35 @@ loop-less : tie.Need-loop-less Inv-loop μ-loop
 loop-less c = omega arith
 
 -- the invariant at the next variable, for such places and so many of them
-abbrev Next : tie.After-occurs Inv-loop μ-loop → List ℕ → ℕ → Type 0
+abbrev Next : tie.After-holds Inv-loop μ-loop → List ℕ → ℕ → Type 0
 Next c places count =
     let l = c .before .before .before in
-    let a = l .before .before .before .args in
-    Inv-loop (now (a .model)) (a .p) (now (a .log)) (a .fact) (now (a .chosen)) (l .before .number-at .result) 0 0 places count (l .loop .i + 1)
+    let a = l .before .before .before .before .args in
+    Inv-loop (now (a .model)) (a .p) (now (a .occurring)) (now (a .chosen)) (l .before .number-at .result) 0 0 places count (l .loop .i + 1)
 
 -- whether the variable occurs, as the test of the definition
-says : (c : tie.After-occurs Inv-loop μ-loop) →
+says : (c : tie.After-holds Inv-loop μ-loop) →
     let l = c .before .before .before in
-    let a = l .before .before .before .args in
-    occurs (factOf (now (a .log)) (a .fact)) (natAt (now (a .model)) (a .p + 1 + l .loop .i)) ≡ c .occurs .result
-says c = rw (sym (c .before .number-at2 .ensures)) (sym (c .occurs .ensures))
+    let a = l .before .before .before .before .args in
+    marked (now (a .occurring)) (natAt (now (a .model)) (a .p + 1 + l .loop .i)) ≡ c .holds .result
+says c = rw (sym (c .before .number-at2 .ensures)) (sym (c .holds .ensures))
 
-taken : (c : tie.After-occurs Inv-loop μ-loop) → c .occurs .result ≡ true → Next c (set (c .before .before .before .loop .chosen) (c .before .before .before .loop .count) (c .before .number-at2 .result)) (c .before .before .before .loop .count + 1)
+taken : (c : tie.After-holds Inv-loop μ-loop) → c .holds .result ≡ true → Next c (set (c .before .before .before .loop .chosen) (c .before .before .before .loop .count) (c .before .number-at2 .result)) (c .before .before .before .loop .count + 1)
 taken c e =
     let l = c .before .before .before in
-    let s = l .before .before .before in
-    let a = s .args in
-    let t = occurs (factOf (now (a .log)) (a .fact)) in (
+    let a = l .before .before .before .before .args in
+    let t = marked (now (a .occurring)) in (
       omega arith,
       omega arith,
       simp length-set (l .loop .inv .2),
       rw (c .before .number-at2 .ensures) (chosen-taken t (natAt (now (a .model)) (a .p)) (now (a .model)) (a .p + 1) (l .loop .chosen) (l .loop .count) (l .loop .i) (omega arith) (l .loop .inv .3) (omega arith) (says c ∙ e)),
     )
 
-passed : (c : tie.After-occurs Inv-loop μ-loop) → c .occurs .result ≡ false → Next c (c .before .before .before .loop .chosen) (c .before .before .before .loop .count)
+passed : (c : tie.After-holds Inv-loop μ-loop) → c .holds .result ≡ false → Next c (c .before .before .before .loop .chosen) (c .before .before .before .loop .count)
 passed c e =
     let l = c .before .before .before in
-    let a = l .before .before .before .args in
-    let t = occurs (factOf (now (a .log)) (a .fact)) in (
+    let a = l .before .before .before .before .args in
+    let t = marked (now (a .occurring)) in (
       omega arith,
       omega arith,
       l .loop .inv .2,
@@ -105,8 +107,8 @@ same-length c = c .before .loop .inv .2
 returns : tie.Need-returns Inv-loop μ-loop
 returns c =
     let l = c .before .loop in
-    let a = c .before .before .before .before .args in
-    (omega arith, chosen-end (occurs (factOf (now (a .log)) (a .fact))) (natAt (now (a .model)) (a .p)) (now (a .model)) (a .p + 1) (take (l .count) (l .chosen)) (l .i) (omega arith) (l .inv .3))
+    let a = c .before .before .before .before .before .args in
+    (omega arith, chosen-end (marked (now (a .occurring))) (natAt (now (a .model)) (a .p)) (now (a .model)) (a .p + 1) (take (l .count) (l .chosen)) (l .i) (omega arith) (l .inv .3))
 
 pub choose-spec : {M : Type 1} → statement M
 choose-spec =
@@ -119,7 +121,7 @@ choose-spec =
     add-number-at
     add-number-at-2
     number-at-requires-2
-    occurs-requires
+    holds-requires
     mul-chosen
     slice-write-chosen
     add-count

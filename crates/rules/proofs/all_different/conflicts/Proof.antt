@@ -6,11 +6,11 @@ use lib.Seq.{length-take-le}
 use denote.Ref.{now}
 use borrow.Author.Needs.{needs}
 use Rattle.words.specs.Lists.{All}
-use Rattle.meaning.specs.Rule.{occurs, crowded}
+use Rattle.marks.specs.Marks.{marked}
+use Rattle.meaning.specs.Rule.{crowded}
 use Rattle.reading.specs.At.{natAt}
-use Rattle.steps.specs.Facts.{factOf}
 use Rattle.domain.specs.Box.{variables, values}
-use Rattle.rules.specs.AllDifferent.{names-in, fact-atoms, chosen-known}
+use Rattle.rules.specs.AllDifferent.{more-named, chosen-known}
 use Rattle.rules.proofs.all_different.conflicts.Statement.{statement}
 use Rattle.rules.proofs.all_different.conflicts.Tie as tie
 
@@ -18,7 +18,7 @@ slice-aggregate-choose : tie.Need-slice-aggregate-choose
 slice-aggregate-choose c = search needs
 
 choose-requires : tie.Need-choose-requires
-choose-requires c κs = let s = c .before in (s .pre .0, names-in (s .pre .1), fact-atoms (s .pre .2), refl)
+choose-requires c κs = let s = c .before .before in (s .pre .0, more-named (s .pre .2) (s .pre .1), refl)
 
 array-share-prefix-chosen : tie.Need-array-share-prefix-chosen
 array-share-prefix-chosen c = search needs
@@ -26,17 +26,17 @@ array-share-prefix-chosen c = search needs
 slice-aggregate-crowded : tie.Need-slice-aggregate-crowded
 slice-aggregate-crowded c =
     let r = c .before .before .choose in
-    sym (length-take-le (r .result) (r .last .1 .1 .1 .1 .0) (omega (arith, r .kept .1 .1 .1 .1 .0, r .ensures .0)))
+    sym (length-take-le (r .result) (r .last .1 .1 .1 .0) (omega (arith, r .kept .1 .1 .1 .0, r .ensures .0)))
 
 crowded-requires : tie.Need-crowded-requires
 crowded-requires c κs =
-    let s = c .before .before .before .before in
+    let s = c .before .before .before .before .before in
     let a = s .args in
-    (s .pre .3, subst (All (λ (x : ℕ). x < variables (now (a .cells)))) (sym (c .before .before .choose .ensures .1)) (chosen-known (occurs (factOf (now (a .log)) (a .fact))) (natAt (now (a .model)) (a .p)) (now (a .model)) (a .p + 1) (s .pre .1)))
+    (s .pre .3, subst (All (λ (x : ℕ). x < variables (now (a .cells)))) (sym (c .before .before .choose .ensures .1)) (chosen-known (marked (now (a .occurring))) (natAt (now (a .model)) (a .p)) (now (a .model)) (a .p + 1) (s .pre .1)))
 
 returns : tie.Need-returns
 returns c =
-    let a = c .before .before .before .before .before .args in
+    let a = c .before .before .before .before .before .before .args in
     c .crowded .ensures ∙ ap (crowded (values (now (a .cells)))) (c .before .before .before .choose .ensures .1)
 
 pub conflicts-spec : {M : Type 1} → statement M
