@@ -9,7 +9,7 @@ use lib.Signed.{_≤ℤ_, leZ}
 use lib.ListN.{length, getD, drop}
 use Rattle.words.specs.Int.{zz, abs-is, one-side}
 use Rattle.words.specs.ListFacts.{and-true, le-of}
-use Rattle.meaning.specs.Read.{Got, got, Reader, bindGot, _>>=_, give, refuse, within, word, count, below, times}
+use Rattle.meaning.specs.Read.{Got, got, Reader, bindGot, _>>=_, give, refuse, neg, within, word, count, below, times}
 use Rattle.reading.specs.At.{At, intAt, natAt, eachAt, Names, Between, Each}
 use Rattle.reading.specs.Reading.{skim, skim-got, bind-got, worded, counted, none-got}
 
@@ -54,8 +54,9 @@ count-back early outside lo hi = record { back = λ s at {a = x} e. let h = coun
 pub ranged-orders : (lo hi w : ℤ) → within lo hi w ≡ true → (lo ≤ℤ w) × (w ≤ℤ hi)
 ranged-orders lo hi w e = let h = and-true (leZ lo w) (leZ w hi) e in (le-of lo w (h .0), le-of w hi (h .1))
 
-pub ranged-size : (k : ℕ) (w : ℤ) → within (negsuc k) (pos (suc k)) w ≡ true → natAbs w ≤ suc k
-ranged-size k w e = let h = ranged-orders (negsuc k) (pos (suc k)) w e in omega (arith, zz, abs-is w, one-side w, h .0, h .1)
+pub ranged-size : (n : ℕ) → 1 ≤ n → (w : ℤ) → within (neg n) (pos n) w ≡ true → natAbs w ≤ n
+ranged-size zero l w e = absurd (omega arith)
+ranged-size (suc k) l w e = let h = ranged-orders (negsuc k) (pos (suc k)) w e in omega (arith, zz, abs-is w, one-side w, h .0, h .1)
 
 pub between-orders : {lo hi : ℕ} {s : List ℤ} {p : ℕ} → Between lo hi s p → (pos lo ≤ℤ intAt s p) × (intAt s p ≤ℤ pos hi)
 between-orders {s = s} {p} h = (omega (arith, zz, h .signless, h .from, abs-is (intAt s p), one-side (intAt s p)), omega (arith, zz, h .upto, abs-is (intAt s p), one-side (intAt s p)))

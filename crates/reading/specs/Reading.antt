@@ -6,13 +6,13 @@ use mathlib.Core.Bool.{Bool, true, false, _&&_}
 use mathlib.Core.List.{List, [], _∷_}
 use native.Mathlib.Numerals.{add-one}
 use native.Mathlib.Omega.{arith}
-use lib.IntN.{ℤ, pos, negsuc, natAbs}
+use lib.IntN.{ℤ, pos, negsuc, natAbs, _-ℤ_}
 use lib.Signed.{_≤ℤ_, leZ}
 use lib.ListN.{length, getD, drop, drop-of-length-le, length-drop}
 use lib.Seq.{drop-cons, getD-drop, drop-drop}
 use borrow.Author.Tests.{leb-true}
-use Rattle.words.specs.Int.{zz}
-use Rattle.meaning.specs.Read.{Got, got, refused, Reader, bindGot, give, within, word, count, below, times}
+use Rattle.words.specs.Int.{zz, diff}
+use Rattle.meaning.specs.Read.{Got, got, refused, Reader, bindGot, give, neg, within, word, count, below, times}
 
 -- ---- a word of a table
 module _ (early outside : ℕ) (lo hi : ℤ) (s : List ℤ) (at : ℕ) where
@@ -99,6 +99,11 @@ counted early outside lo hi at s {x} {n} {vs} p =
       low = omega (arith, b .0, q);
       high = omega (arith, b .1, q);
     }
+
+-- ---- a word from -n to n
+pub minus : (n : ℕ) → 1 ≤ n → pos 0 -ℤ pos n ≡ neg n
+minus zero h = absurd (omega arith)
+minus (suc n) h = omega (arith, zz, diff (pos 0) (pos (suc n)))
 
 -- ---- a number below n
 -- with nothing below 0 no word is in range
