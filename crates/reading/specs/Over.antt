@@ -8,22 +8,26 @@ use lib.ListN.{length, getD, drop}
 use lib.Signed.{_≤ℤ_}
 use Rattle.meaning.specs.Read.{Got, got, refused, Reader, _>>=_, give, count, times}
 use Rattle.reading.specs.At.{At, natAt, Between}
-use Rattle.reading.specs.Reading.{skim, skim-give, skim-refused, left, left-all, left-more, left-stop, left-none}
+use Rattle.reading.specs.Reading.{skim, skim-give, skim-got, skim-refused, left, left-all, left-more, left-stop, left-none}
 use Rattle.reading.specs.Back.{Known, Found, Back, skim-back, count-back}
 use Rattle.reading.specs.Told.{toldPast, Skims}
 use Rattle.reading.specs.declared.Past.{Past}
 use Rattle.reading.specs.declared.Past.the-variants as past
 
 module _ {A : Type 0} {r : Reader A} {s : List ℤ} {at : ℕ} {p : Past} (h : Skims r s at p) where
-  is-refused : {c q : ℕ} → p ≡ past.Refused c q → skim (r at (drop at s)) ≡ refused c q
+  pub is-refused : {c q : ℕ} → p ≡ past.Refused c q → skim (r at (drop at s)) ≡ refused c q
   is-refused e = sym (h .told) ∙ ap (toldPast s) e
 
-  is-over : {n : ℕ} → p ≡ past.Next n → skim (r at (drop at s)) ≡ got tt n (drop n s)
+  pub is-over : {n : ℕ} → p ≡ past.Next n → skim (r at (drop at s)) ≡ got tt n (drop n s)
   is-over e = sym (h .told) ∙ ap (toldPast s) e
 
   -- r was refused, and so is what goes on from it
   pub stops : {B : Type 0} (g : A → Reader B) {c q : ℕ} → p ≡ past.Refused c q → Skims (r >>= g) s at p
   stops g e = record { told = rw (skim-refused (r at (drop at s)) (is-refused e), e) }
+
+  -- r was read over, and what goes on from it does not depend on its value
+  pub goes-any : {n : ℕ} → p ≡ past.Next n → {B : Type 0} (g : A → Reader B) {q : Past} → ((a : A) → Skims (g a) s n q) → Skims (r >>= g) s at q
+  goes-any e g k = let (a, w) = skim-got (r at (drop at s)) (is-over e) in record { told = rw w (k a .told) }
 
   -- r is the last: its value is made into another
   pub gives : {B : Type 0} (f : A → B) → Skims (r >>= λ a. give (f a)) s at p
