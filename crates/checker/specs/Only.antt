@@ -15,20 +15,20 @@ use Rattle.checker.specs.declared.Rechecked.{Rechecked}
 
 -- the way back from what an answer tells
 abbrev concludedBy : says.Conclusion → Conclusion
-concludedBy says.nothing = conclusion.Nothing
-concludedBy (says.atLeast x v) = conclusion.AtLeast (record { 0 = x }) v
+concludedBy says.nothing = conclusion.NoAssignment
+concludedBy (says.atLeast x v) = conclusion.NeverBelow (record { 0 = x }) v
 
 abbrev answeredBy : says.Answer → Answer
-answeredBy (says.shut num k p) = answer.Shut num k p
+answeredBy (says.shut num k p) = answer.Refused num k p
 answeredBy (says.accepted c) = answer.Accepted (concludedBy c)
 answeredBy (says.carried c) = answer.Carried (concludedBy c)
 
 conclusion-back : (c : Conclusion) → concludedBy (toldConclusion c) ≡ c
-conclusion-back conclusion.Nothing = refl
-conclusion-back (conclusion.AtLeast x v) = refl
+conclusion-back conclusion.NoAssignment = refl
+conclusion-back (conclusion.NeverBelow x v) = refl
 
 answer-back : (a : Answer) → answeredBy (toldAnswer a) ≡ a
-answer-back (answer.Shut num k p) = refl
+answer-back (answer.Refused num k p) = refl
 answer-back (answer.Accepted c) = ap answer.Accepted (conclusion-back c)
 answer-back (answer.Carried c) = ap answer.Carried (conclusion-back c)
 
