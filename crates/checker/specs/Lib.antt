@@ -5,5 +5,7 @@ pub mod OneStep
 pub mod BetweenSteps
 pub mod Entry
 pub mod Checks
+pub mod Written
+pub mod WrittenSo
 pub mod Only
 pub mod Demands
