@@ -1,17 +1,18 @@
--- Nothing else satisfies the promises of `check` and `recheck`: two answers that both do are equal, and so are the places.
+-- Nothing else satisfies the promises of `check`, `recheck` and `walk`: two answers that both do are equal, and so are the places.
 use Prim.Native.Nat.{ℕ}
 use mathlib.Core.Path.{_≡_, refl, sym, ap, _∙_}
 use mathlib.Core.List.{List}
 use native.Mathlib.Omega.{arith}
 use lib.IntN.{ℤ}
 use Rattle.meaning.specs.Check as says
-use Rattle.checker.specs.Told.{toldConclusion, toldAnswer}
+use Rattle.checker.specs.Told.{toldConclusion, toldAnswer, Tells}
 use Rattle.checker.specs.Checks.{Checks, Rechecks}
 use Rattle.checker.specs.declared.Conclusion.{Conclusion}
 use Rattle.checker.specs.declared.Conclusion.the-variants as conclusion
 use Rattle.checker.specs.declared.Answer.{Answer}
 use Rattle.checker.specs.declared.Answer.the-variants as answer
 use Rattle.checker.specs.declared.Rechecked.{Rechecked}
+use Rattle.checker.specs.declared.Walked.{Walked}
 
 -- the way back from what an answer tells
 abbrev concludedBy : says.Conclusion → Conclusion
@@ -44,6 +45,16 @@ module _ (lent : List ℕ) where
     λ i. record {
       answer = only-answer (a .answer) (b .answer) (p .answered ∙ sym (q .answered)) i;
       changed = (p .sized ∙ sym (q .sized)) i;
+      judged = (p .counted ∙ sym (q .counted)) i;
+    },
+    p .noted ∙ sym (q .noted),
+  )
+
+  -- of the walk over the log too
+  pub only-walk : (o : says.Outcome) (a b : Walked) (l m : List ℕ) → Tells a lent l o → Tells b lent m o → (a ≡ b) × (l ≡ m)
+  only-walk o a b l m p q = (
+    λ i. record {
+      answer = only-answer (a .answer) (b .answer) (p .answered ∙ sym (q .answered)) i;
       judged = (p .counted ∙ sym (q .counted)) i;
     },
     p .noted ∙ sym (q .noted),

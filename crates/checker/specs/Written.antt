@@ -9,9 +9,14 @@ use Rattle.meaning.specs.Read.{got}
 use Rattle.meaning.specs.Model.{Model}
 use Rattle.meaning.specs.Log.{Fact, Step}
 use Rattle.meaning.specs.Judge.{passes}
-use Rattle.meaning.specs.Check.{Answer, shut, accepted, carried, Conclusion, turn, concludes, verdictOf, readStep, readGood, good, fitsOld, changes, citesChanged}
+use Rattle.meaning.specs.Check.{Answer, shut, accepted, carried, Conclusion, Outcome, turn, concludes, verdictOf, readStep, readGood, good, fitsOld, changes, citesChanged}
 use Rattle.meaning.specs.Claims.{Admitted, Concludes}
 use Rattle.meaning.specs.Outcomes.{Told, Wholly}
+
+-- the answer a and the places `left` are those of an outcome: what every promise of the check and of the recheck says, in whatever numbers it was told
+pub record Gives (a : Answer) (lent left : List ℕ) (o : Outcome) : Type 0 where
+  pub answered : a ≡ o .answer
+  pub noted : left ≡ o .starts ++ drop (length (o .starts)) lent
 
 -- what an acceptance earns: the table is the words of a model in range, the sizes are right, and what is concluded is true of that model
 pub record Earned (model log : List ℤ) (places : ℕ) (c : Conclusion) : Type 0 where

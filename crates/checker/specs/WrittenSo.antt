@@ -40,7 +40,7 @@ guarded-written held say model log lent =
     guarded-cases (λ o. Written held say model log lent (noted o lent) (o .judged) (o .answer)) model log (length lent) (λ m. over (held m) say m log)
     (λ num p b. untouched (early b))
     (λ m f. let g = proved .model-is model m (f .at) (f .rest) .0 (f .reads) in
-        walked (record { model-fits = f .model-fits; log-fits = f .log-fits; places-suffice = f .places-suffice; words-are = g .0; in-range = g .1 }) (over-told (held m) say m log))
+    walked (record { model-fits = f .model-fits; log-fits = f .log-fits; places-suffice = f .places-suffice; words-are = g .0; in-range = g .1 }) (over-told (held m) say m log))
 
 pub check-written : (model log : List ℤ) (lent : List ℕ) → let o : Outcome = check model log (length lent) in Written (λ m t. true) accepted model log lent (noted o lent) (o .judged) (o .answer)
 check-written model log lent = guarded-written (λ m t. true) accepted model log lent
