@@ -101,9 +101,9 @@ module _ (old new log : List ℤ) (lent left : List ℕ) (a : Answer) (promise :
   pub again-refused-writes : {num k p : ℕ} → a ≡ shut num k p → 8 ≤ num → RefusedAfter (again-written .held) new log lent left k
   again-refused-writes e h = so.after-refusal (so.judges-speaks (again-written .judges)) h (again-written .written) e
 
-  -- accepted or carried, as the recheck says it
-  pub again-writes : {c : Conclusion} → a ≡ again-written .say c → ConcludedAfter (again-written .held) new log lent left c
-  again-writes e = so.after-conclusion (so.judges-speaks (again-written .judges)) (again-written .written) e
+  -- accepted or carried: one place for each step, the last of them where the conclusion begins, which ends the log
+  pub again-writes : ((num k p : ℕ) → a ≡ shut num k p → ⊥) → ConcludedAfter (again-written .held) new log lent left (so.conclusionOf a)
+  again-writes n = so.after-any (so.judges-speaks (again-written .judges)) n (again-written .written)
 
   -- a recheck that says accepted has earned it, whatever the old table is
   pub again-earned : {c : Conclusion} → a ≡ accepted c → Earned new log (length lent) c

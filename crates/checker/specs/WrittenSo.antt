@@ -181,7 +181,7 @@ stepOf (shut num k p) = k
 stepOf (accepted c) = 0
 stepOf (carried c) = 0
 
-abbrev conclusionOf : Answer → Conclusion
+abbrev pub conclusionOf : Answer → Conclusion
 conclusionOf (shut num k p) = nothing
 conclusionOf (accepted c) = c
 conclusionOf (carried c) = c
@@ -190,12 +190,13 @@ conclusionOf (carried c) = c
 pub record Speaks (say : Conclusion → Answer) : Type 0 where
   pub apart : {c : Conclusion} {num k p : ℕ} → say c ≡ shut num k p → ⊥
   pub same : {b c : Conclusion} → say b ≡ say c → b ≡ c
+  pub names : (c : Conclusion) → conclusionOf (say c) ≡ c
 
 pub accepts : Speaks accepted
-accepts = record { apart = λ e. absurd (let z : _≡_ {A = ℕ} 0 1 = cc in omega arith); same = ap conclusionOf }
+accepts = record { apart = λ e. absurd (let z : _≡_ {A = ℕ} 0 1 = cc in omega arith); same = ap conclusionOf; names = λ c. refl }
 
 pub carries : Speaks carried
-carries = record { apart = λ e. absurd (let z : _≡_ {A = ℕ} 0 1 = cc in omega arith); same = ap conclusionOf }
+carries = record { apart = λ e. absurd (let z : _≡_ {A = ℕ} 0 1 = cc in omega arith); same = ap conclusionOf; names = λ c. refl }
 
 pub judges-speaks : {old new : List ℤ} {held : Model → Step → Bool} {say : Conclusion → Answer} → Judges old new held say → Speaks say
 judges-speaks (all-steps w) = accepts
@@ -247,3 +248,18 @@ module _ {held : Model → Step → Bool} {say : Conclusion → Answer} {model l
             places = subst (FirstWords (held m) m log lent (starts ++ drop (length starts) lent)) x (first-words (held m) say m log lent (d .log-fits) (d .places-suffice) t);
             last = subst (λ v. ConcludesAt m log i v c) (sym (entry (held m) say m log lent (d .log-fits) (d .places-suffice) t i h)) w;
           }
+
+  -- accepted or carried, whichever `say` is
+  pub after-any : {left : List ℕ} {j : ℕ} {a : Answer} → ((num k p : ℕ) → a ≡ shut num k p → ⊥) → Written held say model log lent left j a → ConcludedAfter held model log lent left (conclusionOf a)
+  after-any {left} {j} {a} n w = go w (said w n)
+    where
+      said : {left : List ℕ} {j : ℕ} {a : Answer} → Written held say model log lent left j a → ((num k p : ℕ) → a ≡ shut num k p → ⊥) → (c : Conclusion) × (a ≡ say c)
+      said (untouched {num} {p} l) n = absurd (n num 0 p refl)
+      said (walked {m} {starts} d t) n = find (ended (held m) say m log t refl) n
+        where
+          find : {b : Answer} → Ended (held m) say m log 0 starts b → ((num k p : ℕ) → b ≡ shut num k p → ⊥) → (c : Conclusion) × (b ≡ say c)
+          find (refused-at {num} {n = i} {p = p} x) n = absurd (n num i p refl)
+          find (concluded-at {c = c} x y z) n = (c, refl)
+
+      go : Written held say model log lent left j a → (c : Conclusion) × (a ≡ say c) → ConcludedAfter held model log lent left (conclusionOf a)
+      go w (c, e) = subst (ConcludedAfter held model log lent left) (sym (ap conclusionOf e ∙ s .names c)) (after-conclusion w e)
