@@ -2,6 +2,7 @@
 -- `lent` are the places before the call, `left` those after it. Nothing is asked of the tables. What the records say stands in the checker's Written.
 use Prim.Native.Nat.{ℕ, _≤_}
 use mathlib.Core.Path.{_≡_, refl, sym, ap, _∙_, subst}
+use mathlib.Core.Logic.{_⊎_, inl, inr}
 use mathlib.Core.List.{List, []}
 use native.Mathlib.Omega.{arith}
 use lib.IntN.{ℤ}
@@ -49,6 +50,13 @@ fields-judged (says.carried (says.atLeast x v)) changed judged = refl
 
 judged-so : (a : says.Answer) (changed judged : ℕ) {r : DimpsyholtAnswer} → r ≡ fieldsOf a changed judged → r .judged ≡ judged
 judged-so a changed judged e = ap (λ (x : DimpsyholtAnswer). x .judged) e ∙ fields-judged a changed judged
+
+kinds-of : {r : DimpsyholtAnswer} (a : says.Answer) (changed judged : ℕ) → r ≡ fieldsOf a changed judged → (r .kind ≡ 0) ⊎ ((r .kind ≡ 1) ⊎ (r .kind ≡ 2))
+kinds-of (says.shut num k p) changed judged e = inl (ap (λ (x : DimpsyholtAnswer). x .kind) e)
+kinds-of (says.accepted says.nothing) changed judged e = inr (inl (ap (λ (x : DimpsyholtAnswer). x .kind) e))
+kinds-of (says.accepted (says.atLeast x v)) changed judged e = inr (inl (ap (λ (x : DimpsyholtAnswer). x .kind) e))
+kinds-of (says.carried says.nothing) changed judged e = inr (inr (ap (λ (x : DimpsyholtAnswer). x .kind) e))
+kinds-of (says.carried (says.atLeast x v)) changed judged e = inr (inr (ap (λ (x : DimpsyholtAnswer). x .kind) e))
 
 -- a refusal has kind 0
 kind-refused : {r : DimpsyholtAnswer} {lent left : List ℕ} {o : says.Rechecked} {num k p : ℕ} → RecheckTold r lent left o → meant r ≡ says.shut num k p → r .kind ≡ 0
@@ -99,22 +107,29 @@ module _ (old new log : List ℤ) (lent left : List ℕ) (r : DimpsyholtAnswer) 
   again-as-the-check before behind right q whole earlier e s =
       demands.recheck-carries old new log lent left (meant r) (of-recheck told) before behind (meant q) (of-check earlier) (accepted-kind q e) (meant whole) right (of-check s)
 
+  -- there is no other kind
+  pub kinds : (r .kind ≡ 0) ⊎ ((r .kind ≡ 1) ⊎ (r .kind ≡ 2))
+  kinds = let o = says.recheck old new log (length lent) in kinds-of (o .outcome .answer) (o .size) (o .outcome .judged) (told .answered)
+
+  -- which steps it judges: all, or those that cite a changed row
+  abbrev pub again-judges : WrittenAgain old new log lent left (says.recheck old new log (length lent) .outcome .judged) (meant r)
+  again-judges = demands.again-written old new log lent left (meant r) (of-recheck told)
+
   -- the places: which steps passed, one by one, and how many were judged
   pub again-written : WrittenAgain old new log lent left (r .judged) (meant r)
   again-written =
       let o = says.recheck old new log (length lent) in
       subst (λ j. WrittenAgain old new log lent left j (meant r)) (sym (judged-so (o .outcome .answer) (o .size) (o .outcome .judged) (told .answered)))
-      (demands.again-written old new log lent left (meant r) (of-recheck told))
+      again-judges
 
   pub again-early-places : r .kind ≡ 0 → r .number ≤ 7 → left ≡ lent
   again-early-places e = demands.again-untouched old new log lent left (meant r) (of-recheck told) (refused-kind r e)
 
-  -- `held` says which steps are judged: all, or those that cite a changed row
-  pub again-refused-places : r .kind ≡ 0 → 8 ≤ r .number → RefusedAfter (demands.again-written old new log lent left (meant r) (of-recheck told) .held) new log lent left (r .step)
+  pub again-refused-places : r .kind ≡ 0 → 8 ≤ r .number → RefusedAfter (again-judges .held) new log lent left (r .step)
   again-refused-places e = demands.again-refused-writes old new log lent left (meant r) (of-recheck told) (refused-kind r e)
 
   -- kind 1 or 2: one place for each step, the first 0, the last where the conclusion begins; all others as lent
-  pub again-places : (r .kind ≡ 0 → ⊥) → ConcludedAfter (demands.again-written old new log lent left (meant r) (of-recheck told) .held) new log lent left (concluded (meant r))
+  pub again-places : (r .kind ≡ 0 → ⊥) → ConcludedAfter (again-judges .held) new log lent left (concluded (meant r))
   again-places n = demands.again-writes old new log lent left (meant r) (of-recheck told) (λ num k p e. n (kind-refused told e))
 
 -- ---- rows that no step cites do not matter
