@@ -83,8 +83,8 @@ fn never_below(x: VarNo, value: i32) {
 
 fn concluded(c: Conclusion) {
     match c {
-        Conclusion::Nothing => text(b"no assignment"),
-        Conclusion::AtLeast(x, value) => never_below(x, value),
+        Conclusion::NoAssignment => text(b"no assignment"),
+        Conclusion::NeverBelow(x, value) => never_below(x, value),
     }
 }
 
@@ -100,7 +100,7 @@ fn carried(c: Conclusion) {
 
 pub fn answer(a: Answer) {
     match a {
-        Answer::Shut {
+        Answer::Refused {
             number,
             step,
             position,
@@ -122,7 +122,7 @@ fn ran_out(cause: u32, step: u32, position: u32) {
 // The same of a log whose steps alone are looked at.
 pub fn steps(a: Answer) {
     match a {
-        Answer::Shut {
+        Answer::Refused {
             number,
             step,
             position,

@@ -2,8 +2,8 @@ use mir.Syntax.{w32}
 use mir.Facts.{toZ-ofZ}
 use Rattle.words.specs.Int.{fit}
 use borrow.Author.Needs.{needs}
-use Rattle.checker.proofs.walk.turn.Statement.{statement}
-use Rattle.checker.proofs.walk.turn.Tie as tie
+use Rattle.checker.proofs.walk.after_passing.Statement.{statement}
+use Rattle.checker.proofs.walk.after_passing.Tie as tie
 
 returns : tie.Need-returns
 returns c = rw (c .enum-told .given .1)
@@ -19,8 +19,8 @@ returns-4 c =
     let f = fit w32 (c .before .before .step .given .0 .1 .0) (c .before .known-told .given .1 .0 .1) in
     rw (c .before .before .step .given .1) (rw toZ-ofZ at (c .conclude2 .ensures))
 
-pub turn-spec : {M : Type 1} → statement M
-turn-spec =
+pub after-passing-spec : {M : Type 1} → statement M
+after-passing-spec =
     tie.close
     (tie.spec
     (λ c. search needs)

@@ -31,18 +31,18 @@ module _ (held : Step → Bool) (say : Conclusion → Answer) (m : Model) where
         once ∙ ap (onward (walk held say m (pred (length ws)) (suc k))) e
         ∙ walked-is held say m (pred (length ws)) (omega arith) (walked held say m (length rest) (suc k) s' at' rest (le-refl (length rest)))
 
--- the state after k steps, whose starts are the first k places; `made p` is the fact of the step that begins at p, j steps were judged
-abbrev pub stateAt : (ℕ → Fact) → List ℕ → ℕ → ℕ → State
-stateAt made places k j = record { facts = map made (take k places); starts = take k places; judged = j }
+-- the state after the steps passed, by their first words; `made p` is the fact of the step that begins at p, j steps were judged
+abbrev pub stateAt : (ℕ → Fact) → List ℕ → ℕ → State
+stateAt made passed j = record { facts = map made passed; starts = passed; judged = j }
 
 map-append : {A B : Type 0} (f : A → B) (xs ys : List A) → map f (xs ++ ys) ≡ map f xs ++ map f ys
 map-append f [] ys = refl
 map-append f (x ∷ xs) ys = ap (λ l. f x ∷ l) (map-append f xs ys)
 
-one-more-place : (places : List ℕ) (k at : ℕ) → k < length places → take (k + 1) (set places k at) ≡ take k places ++ (at ∷ [])
+pub one-more-place : (places : List ℕ) (k at : ℕ) → k < length places → take (k + 1) (set places k at) ≡ take k places ++ (at ∷ [])
 one-more-place places k at h = rw (add-one, take-suc-set)
 
 pub state-passed : (made : ℕ → Fact) (places : List ℕ) (k j at : ℕ) (b : Bool) → k < length places
-    → passed (counted b (stateAt made places k j)) at (made at) ≡ stateAt made (set places k at) (k + 1) (oneMore b j)
+    → passed (counted b (stateAt made (take k places) j)) at (made at) ≡ stateAt made (take (k + 1) (set places k at)) (oneMore b j)
 state-passed made places k j at b h =
     rw (one-more-place places k at h, map-append made (take k places) (at ∷ []))

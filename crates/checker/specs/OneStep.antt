@@ -1,16 +1,17 @@
 -- One step of the walk, case by case: what `advance` gives where the log ran out, could not be read, failed its rule or passed.
 use Prim.Native.Nat.{ℕ, suc, _+_, _≤_, _<_}
 use mathlib.Core.Path.{_≡_, refl, sym, ap, _∙_}
-use mathlib.Core.Bool.{Bool, true, false}
-use mathlib.Core.List.{List, [], _∷_}
+use mathlib.Core.Bool.{Bool, true, false, not}
+use mathlib.Core.List.{List, [], _∷_, map}
 use mathlib.Core.Logic.{⊎-elim}
 use native.Mathlib.Omega.{arith}
 use borrow.Author.Tests.{ltb-true, ltb-false}
 use lib.Dec.{ltb}
 use lib.IntN.{ℤ, pos}
-use lib.ListN.{length, drop, drop-of-length-le}
-use lib.Seq.{drop-cons}
-use Rattle.words.specs.ListFacts.{tested}
+use lib.ListN.{length, take, drop, drop-of-length-le}
+use lib.Seq.{drop-cons, take-length}
+use Rattle.words.specs.ListFacts.{tested, clash}
+use Rattle.meaning.specs.Limits.{mostHints}
 use Rattle.meaning.specs.Log.{Fact}
 use Rattle.meaning.specs.Outcomes.{Fault, box-empty, no-conflict, start-empty, hint-off, used-up, unfit-nothing, unfit-bound}
 use Rattle.meaning.specs.Proved.Faults.{fault}
@@ -29,8 +30,8 @@ use Rattle.steps.specs.declared.StepAnswer.{StepAnswer}
 use Rattle.steps.specs.declared.StepAnswer.the-variants as read
 use Rattle.steps.specs.declared.Step.{Step}
 use Rattle.steps.specs.declared.Step.the-variants as step
-use Rattle.checker.specs.Told.{toldMoved, toldConclusion, turned, concluded, heldBy, RowBelow}
-use Rattle.checker.specs.Onward.{Onward}
+use Rattle.checker.specs.Told.{toldMoved, toldConclusion, afterPassing, concluded, heldBy, RowBelow}
+use Rattle.checker.specs.LeadsTo.{LeadsTo}
 use Rattle.checker.specs.Told.{ConclusionIn}
 use Rattle.checker.specs.declared.Conclusion.{Conclusion}
 
@@ -70,10 +71,10 @@ module _ (held : logs.Step → Bool) (say : says.Conclusion → says.Answer) (m 
           (tested (ltb n (length log)))
 
       pub has-passed : MadeBy log at t → verdictOf b m (s .facts) (stepOf log t) ≡ judge.passes
-          → toldMoved say log s k at (madeFact log at) (turned t b n (length log)) ≡ advance held say m k s at (drop at log)
+          → toldMoved say log s k at (madeFact log at) (afterPassing t b n (length log)) ≡ advance held say m k s at (drop at log)
       has-passed f j = go t f ∙ sym (advance-is j)
         where
-          go : (t : Step) → MadeBy log at t → toldMoved say log s k at (madeFact log at) (turned t b n (length log)) ≡ afterVerdict say k at n (drop n log) (counted b s) (says.turn (stepOf log t)) judge.passes
+          go : (t : Step) → MadeBy log at t → toldMoved say log s k at (madeFact log at) (afterPassing t b n (length log)) ≡ afterVerdict say k at n (drop n log) (counted b s) (says.turn (stepOf log t)) judge.passes
           go (step.Inference r f) p = rw p
           go (step.Deduction f i j) p = rw p
           go (step.NoAssignment i) p = ends-so _
@@ -86,8 +87,8 @@ pub record Reached (m : Model) (v c : ℕ) (log : List ℤ) (k at : ℕ) (t : St
   pub reads : readStep m k at (drop at log) ≡ got (stepOf log t) n (drop n log)
   pub parts : PartsIn v c k log t
   pub made : MadeBy log at t
-  pub leads : (b : Bool) → Onward v log at (turned t b n (length log))
-  pub hints-few : (facts : ℕ → Fact) {num p : ℕ} → judge.judge m facts (stepOf log t) ≡ judge.fails num p → p ≤ 64
+  pub leads : (b : Bool) → LeadsTo v log at (afterPassing t b n (length log))
+  pub hints-few : (facts : ℕ → Fact) {num p : ℕ} → judge.judge m facts (stepOf log t) ≡ judge.fails num p → p ≤ mostHints
 
 -- v variables, c rows and k facts can be named
 module _ (v c : ℕ) (log : List ℤ) (k at : ℕ) where
@@ -97,17 +98,17 @@ module _ (v c : ℕ) (log : List ℤ) (k at : ℕ) where
   made-by (step.NoAssignment i) e = tt
   made-by (step.NeverBelow x a i) e = tt
 
-  conclude-onward : (b : Bool) (n : ℕ) (d : Conclusion) → length log ≤ 16384 → at < length log → ConclusionIn v d → Onward v log at (concluded d b n (length log))
-  conclude-onward b n d s h i = ⊎-elim (λ y. rw y (let l = ltb-true n (length log) y in omega arith)) (λ y. rw y (h, i)) (tested (ltb n (length log)))
+  conclude-leads : (b : Bool) (n : ℕ) (d : Conclusion) → length log ≤ 65536 → at < length log → ConclusionIn v d → LeadsTo v log at (concluded d b n (length log))
+  conclude-leads b n d s h i = ⊎-elim (λ y. rw y (let l = ltb-true n (length log) y in omega arith)) (λ y. rw y (h, i)) (tested (ltb n (length log)))
 
-  leads-on : (t : Step) {n : ℕ} → length log ≤ 16384 → at < length log → n ≤ length log → PartsIn v c k log t → logs.step v c k at (drop at log) ≡ got (stepOf log t) n (drop n log) → (b : Bool) → Onward v log at (turned t b n (length log))
+  leads-on : (t : Step) {n : ℕ} → length log ≤ 65536 → at < length log → n ≤ length log → PartsIn v c k log t → logs.step v c k at (drop at log) ≡ got (stepOf log t) n (drop n log) → (b : Bool) → LeadsTo v log at (afterPassing t b n (length log))
   leads-on (step.Inference r f) s h l i e b = (step-left v c k at (drop at log) e .moves, l, made-in v c k log at (stepOf log (step.Inference r f)) e refl .0)
   leads-on (step.Deduction f i j) s h l x e b = (step-left v c k at (drop at log) e .moves, l, made-in v c k log at (stepOf log (step.Deduction f i j)) e refl .0)
-  leads-on (step.NoAssignment i) s h l x e b = conclude-onward b _ _ s h tt
-  leads-on (step.NeverBelow y a i) s h l x e b = conclude-onward b _ _ s h (x .0)
+  leads-on (step.NoAssignment i) s h l x e b = conclude-leads b _ _ s h tt
+  leads-on (step.NeverBelow y a i) s h l x e b = conclude-leads b _ _ s h (x .0)
 
 -- a rule refuses at position 0 or at one of the hints
-few-hints : (v c k : ℕ) (log : List ℤ) (t : Step) {num p : ℕ} → PartsIn v c k log t → Fault (stepOf log t) num p → p ≤ 64
+few-hints : (v c k : ℕ) (log : List ℤ) (t : Step) {num p : ℕ} → PartsIn v c k log t → Fault (stepOf log t) num p → p ≤ mostHints
 few-hints v c k log (step.Inference r f) i box-empty = omega arith
 few-hints v c k log (step.Inference r f) i no-conflict = omega arith
 few-hints v c k log (step.Deduction f h n) i start-empty = omega arith
@@ -118,7 +119,7 @@ few-hints v c k log (step.NeverBelow x a j) i unfit-bound = omega arith
 
 -- with the answer of its reading; the variables and the rows are the model's
 module _ (m : Model) {v c : ℕ} (p : length (m .bounds) ≡ v) (q : length (m .rows) ≡ c) (log : List ℤ) (k at : ℕ) {g : StepAnswer} (e : toldStep log g ≡ logs.step v c k at (drop at log)) where
-  pub reach : (t : Step) (n : ℕ) → length log ≤ 16384 → at < length log → g ≡ read.Is t n → StepPlaced log (at + 1) g → Reached m v c log k at t n
+  pub reach : (t : Step) (n : ℕ) → length log ≤ 65536 → at < length log → g ≡ read.Is t n → StepPlaced log (at + 1) g → Reached m v c log k at t n
   reach t n s h f w =
       let e′ : toldStep log (read.Is t n) ≡ logs.step v c k at (drop at log) = rw f at e in
       let i = answer-in v c k log at (read.Is t n) e′ (rw f at w) in
@@ -146,6 +147,17 @@ held-any false set s (step.NoAssignment k) = refl
 held-any false set s (step.NeverBelow x a k) = refl
 
 -- a step that is not held does not fail
-pub held-fails : {m : Model} {v c : ℕ} {log : List ℤ} {k at : ℕ} {t : Step} {n : ℕ} → Reached m v c log k at t n → (b : Bool) (fs : List Fact) {num p : ℕ} → verdictOf b m fs (stepOf log t) ≡ judge.fails num p → p ≤ 64
+pub held-fails : {m : Model} {v c : ℕ} {log : List ℤ} {k at : ℕ} {t : Step} {n : ℕ} → Reached m v c log k at t n → (b : Bool) (fs : List Fact) {num p : ℕ} → verdictOf b m fs (stepOf log t) ≡ judge.fails num p → p ≤ mostHints
 held-fails r true fs e = r .hints-few (says.factAt fs) e
 held-fails r false fs e = absurd (let z : _≡_ {A = ℕ} 0 1 = cc in omega arith)
+
+-- a step that is held has the verdict of its rule, with the facts of the steps passed
+pub judged-is : (m : Model) (made : ℕ → Fact) (passed : List ℕ) (t : logs.Step) {v : judge.Verdict} (b : Bool) → not b ≡ false
+    → v ≡ judge.judge m (says.factAt (map made (take (length passed) passed))) t → v ≡ verdictOf b m (map made passed) t
+judged-is m made passed t true e j = j ∙ ap (λ l. judge.judge m (says.factAt (map made l)) t) (take-length passed)
+judged-is m made passed t false e j = clash refl e
+
+-- one that is not held passes
+pub waved-on : (m : Model) (fs : List Fact) (t : logs.Step) (b : Bool) → not b ≡ true → verdictOf b m fs t ≡ judge.passes
+waved-on m fs t true e = clash e refl
+waved-on m fs t false e = refl
