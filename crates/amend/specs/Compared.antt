@@ -1,6 +1,6 @@
 -- Each way in which the comparison of two models ends.
 use Prim.Native.Nat.{ℕ, _*_, _≤_, _<_}
-use mathlib.Core.Path.{_≡_, refl, sym, subst₂, _∙_}
+use mathlib.Core.Path.{_≡_, refl, sym, _∙_}
 use mathlib.Core.Bool.{Bool, true, false, not, _&&_}
 use mathlib.Core.List.{List}
 use native.Mathlib.Omega.{arith}
@@ -9,13 +9,12 @@ use lib.Dec.{ltb}
 use lib.IntN.{ℤ}
 use lib.ListN.{length}
 use lib.Seq.{sets}
+use Rattle.meaning.specs.Limits.{mostModelWords, mostRows}
 use Rattle.meaning.specs.Read.{refused}
 use Rattle.meaning.specs.Model.{Model, readModel}
 use Rattle.meaning.specs.Check.{good, bad, goodOf, readGood, sameWords, sameBounds, fitsOld, changes}
-use Rattle.model.specs.Laws.{said-good, said-shut}
-use Rattle.model.specs.Planned.{modelOf, Planned, planned}
+use Rattle.model.specs.Planned.{modelOf, Planned, Modelled, planned}
 use Rattle.model.specs.Starts.{modelStarts}
-use Rattle.model.specs.Told as told
 use Rattle.amend.specs.Bits.{packed}
 use Rattle.amend.specs.Changed.{Answered, Whole}
 use Rattle.amend.specs.Words.{wordsAt, other-bounds, bounds-words}
@@ -24,15 +23,15 @@ module _ (old : List ℤ) (n : Model) where
   bad-is-whole : readGood old ≡ bad → Whole (readGood old) n
   bad-is-whole e = rw e (refl, refl)
 
-  pub too-long : 4096 < length old → Whole (readGood old) n
-  too-long h = bad-is-whole (rw (lt-ltb 4096 (length old) h))
+  pub too-long : mostModelWords < length old → Whole (readGood old) n
+  too-long h = bad-is-whole (rw (lt-ltb mostModelWords (length old) h))
 
-  pub not-good : {num p : ℕ} → told.shut num p ≡ told.saysModel (readModel 0 old) → Whole (readGood old) n
-  not-good e = bad-is-whole (go (ltb 4096 (length old)) (said-shut old e))
+  pub not-good : {num p : ℕ} → readModel 0 old ≡ refused num p → Whole (readGood old) n
+  not-good e = bad-is-whole (go (ltb mostModelWords (length old)))
     where
-      go : {num p : ℕ} (b : Bool) → readModel 0 old ≡ refused num p → goodOf b (readModel 0 old) ≡ bad
-      go true q = refl
-      go false q = rw q
+      go : (b : Bool) → goodOf b (readModel 0 old) ≡ bad
+      go true = refl
+      go false = rw e
 
   unfit : {o : Model} → readGood old ≡ good o → fitsOld o n ≡ false → Whole (readGood old) n
   unfit e f = rw (e, f) (refl, refl)
@@ -45,14 +44,10 @@ pub record Known (old : List ℤ) (starts : List ℕ) (v c : ℕ) : Type 0 where
   pub is : readGood old ≡ good (modelOf old)
   pub plan : Planned old starts v c
 
-pub known : (old : List ℤ) (l : List ℕ) {v c : ℕ} → length old ≤ 4096 → 64 ≤ length l → told.good v c ≡ told.saysModel (readModel 0 old) → Known old (sets l 0 (modelStarts old)) v c
-known old l {v} {c} short room e =
-    let r = said-good old e in
-    let z : ltb 4096 (length old) ≡ false = le-ltb 4096 (length old) short in
-    record {
-      is = rw (z, r .is);
-      plan = subst₂ (Planned old (sets l 0 (modelStarts old))) (r .variables) (r .rows) (planned old l (r .is) room);
-    }
+pub known : {old : List ℤ} (l : List ℕ) {v c : ℕ} → length old ≤ mostModelWords → mostRows ≤ length l → Modelled old → v ≡ length (modelOf old .bounds) → c ≡ length (modelOf old .rows) → Known old (sets l 0 (modelStarts old)) v c
+known {old} l short room m p q =
+    let z : ltb mostModelWords (length old) ≡ false = le-ltb mostModelWords (length old) short in
+    record { is = rw (z, m .is); plan = rw (p, q) (planned l m room) }
 
 none : (b : Bool) → b && false ≡ false
 none true = refl

@@ -54,3 +54,9 @@ module _ {old new : List ℤ} {olds news : List ℕ} {v c : ℕ} (o : Planned ol
 
   pub flag-is : (r : ℕ) → r < c → getD flags r false ≡ not (sameWords (rowWordsAt old (getD olds r 0)) (rowWordsAt new (getD news r 0)))
   flag-is r h = flag-at (linear (pos 0) []) (modelOf old .rows) (modelOf new .rows) r (o .rows ∙ sym (n .rows)) (omega (arith, o .rows)) ∙ ap₂ (λ x y. not (sameWords x y)) (words-of o r h) (words-of n r h)
+
+-- two good models with as many variables and `rows` rows each
+pub record Alike (old : List ℤ) (olds : List ℕ) (new : List ℤ) (news : List ℕ) (rows : ℕ) : Type 0 where
+  pub variables : ℕ
+  pub before : Planned old olds variables rows
+  pub after : Planned new news variables rows

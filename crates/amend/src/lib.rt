@@ -1,6 +1,6 @@
 // Which rows of a model changed: two models are held against each other word by word.
 use model;
-use model::ModelAnswer;
+use reading::Past;
 use reading::limits::MOST_MODEL_WORDS;
 use reading::limits::MOST_ROWS;
 use words;
@@ -13,7 +13,7 @@ ghost use Rattle.meaning.specs.Check.{sameWords, changes, readGood};
 ghost use Rattle.model.specs.Planned.{modelOf, Planned};
 ghost use Rattle.amend.specs.Bits.{packed, bitAt};
 ghost use Rattle.amend.specs.Changed.{wholeOf, changedOf};
-ghost use Rattle.amend.specs.Rows.{rowWordsAt, Stands};
+ghost use Rattle.amend.specs.Rows.{rowWordsAt, Stands, Alike};
 
 // Whether the recheck is the whole check; else the set of changed rows, with one bit for each row.
 pub struct Amended {
@@ -67,15 +67,8 @@ fn same_row(a: &[i32], p: usize, b: &[i32], q: usize) -> bool
 }
 
 // The rows of two good models of the same size, held against each other.
-fn changed_rows(
-    old: &[i32],
-    olds: &[u32],
-    new: &[i32],
-    starts: &[u32],
-    variables: usize,
-    rows: usize,
-) -> u64
-    requires { ⌜ Planned (now old) (now olds) variables rows × Planned (now new) (now starts) variables rows ⌝ }
+fn changed_rows(old: &[i32], olds: &[u32], new: &[i32], starts: &[u32], rows: usize) -> u64
+    requires { ⌜ Alike (now old) (now olds) (now new) (now starts) rows ⌝ }
     ensures { λ r. ⌜ r ≡ packed (changes (modelOf (now (old .entry)) .rows) (modelOf (now (new .entry)) .rows)) ⌝ }
 {
     let mut set: u64 = 0;
@@ -106,23 +99,19 @@ pub fn compare(old: &[i32], new: &[i32], starts: &[u32], variables: usize, rows:
     }
     let mut olds = [0u32; MOST_ROWS];
     let read = model::read_model(old, &mut olds);
-    let ModelAnswer::Good {
-        variables: v,
-        rows: c,
-    } = read
-    else {
+    let Past::Next(_) = read else {
         return whole;
     };
-    if v != variables {
+    if model::variables_of(old) != variables {
         return whole;
     }
-    if c != rows {
+    if model::rows_of(old) != rows {
         return whole;
     }
     if !same_words(old, 1, new, 1, variables * 2) {
         return whole;
     }
-    let set = changed_rows(old, &olds, new, starts, variables, rows);
+    let set = changed_rows(old, &olds, new, starts, rows);
     Amended {
         whole: false,
         changed: set,

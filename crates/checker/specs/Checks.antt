@@ -8,6 +8,7 @@ use lib.Dec.{ltb}
 use lib.Count as count
 use lib.IntN.{ℤ}
 use lib.ListN.{length, drop, getD}
+use Rattle.meaning.specs.Limits.{mostVariables}
 use Rattle.meaning.specs.Model.{Model}
 use Rattle.meaning.specs.Log.{Step, Fact, inference, deduction, noAssignment, neverBelow}
 use Rattle.meaning.specs.Check as says
@@ -20,7 +21,7 @@ use Rattle.amend.specs.Bits.{bitAt}
 use Rattle.amend.specs.Changed.{Answered}
 use Rattle.amend.specs.Only.{Otherwise, refused, unfit, whole-told, Partly, partly-told}
 use Rattle.checker.specs.Told.{toldAnswer, heldBy, sayBy, sizeBy, NamesIn, Tells}
-use Rattle.checker.specs.Entry.{ShutAt, OpenTo}
+use Rattle.checker.specs.Entry.{RefusedAt, OpenTo}
 use Rattle.checker.specs.declared.Answer.{Answer}
 use Rattle.checker.specs.declared.Answer.the-variants as answer
 use Rattle.checker.specs.declared.Walked.{Walked}
@@ -30,7 +31,7 @@ use Rattle.checker.specs.declared.Rechecked.{Rechecked}
 pub record Checks (r : Answer) (lent left : List ℕ) (o : says.Outcome) : Type 0 where
   pub answered : toldAnswer r ≡ o .answer
   pub noted : left ≡ o .starts ++ drop (length (o .starts)) lent
-  pub named : NamesIn 64 r
+  pub named : NamesIn mostVariables r
 
 -- and the size of the changed set and the count of judged steps are told
 pub record Rechecks (r : Rechecked) (lent left : List ℕ) (o : says.Rechecked) : Type 0 where
@@ -38,18 +39,18 @@ pub record Rechecks (r : Rechecked) (lent left : List ℕ) (o : says.Rechecked) 
   pub noted : left ≡ o .outcome .starts ++ drop (length (o .outcome .starts)) lent
   pub sized : r .changed ≡ o .size
   pub counted : r .judged ≡ o .outcome .judged
-  pub named : NamesIn 64 (r .answer)
+  pub named : NamesIn mostVariables (r .answer)
 
 -- ---- the whole check
 module _ (model log : List ℤ) (places : ℕ) where
-  check-shut : {num p : ℕ} → ShutAt model log places num p → says.check model log places ≡ says.shutEarly num p
-  check-shut s = s .1 (λ m. says.over (λ t. true) says.accepted m log)
+  check-refused : {num p : ℕ} → RefusedAt model log places num p → says.check model log places ≡ says.shutEarly num p
+  check-refused s = s .1 (λ m. says.over (λ t. true) says.accepted m log)
 
   check-open : {starts : List ℕ} {v c : ℕ} → OpenTo model log places starts v c → says.check model log places ≡ says.over (λ t. true) says.accepted (modelOf model) log
   check-open o = o .on (λ m. says.over (λ t. true) says.accepted m log)
 
-  pub checks-shut : (lent : List ℕ) (num p : ℕ) → ShutAt model log places num p → Checks (answer.Shut num 0 p) lent lent (says.check model log places)
-  checks-shut lent num p s = rw (check-shut s) (record { answered = refl; noted = refl; named = tt })
+  pub checks-refused : (lent : List ℕ) (num p : ℕ) → RefusedAt model log places num p → Checks (answer.Refused num 0 p) lent lent (says.check model log places)
+  checks-refused lent num p s = rw (check-refused s) (record { answered = refl; noted = refl; named = tt })
 
   pub checks-open : {starts : List ℕ} {v c : ℕ} (w : Walked) (lent left : List ℕ) → OpenTo model log places starts v c
       → Tells w lent left (says.over (heldBy true 0) (sayBy true) (modelOf model) log) → Checks (w .answer) lent left (says.check model log places)
@@ -92,8 +93,8 @@ module _ (old new log : List ℤ) (places : ℕ) where
   abbrev Shut : ℕ → ℕ → says.Rechecked
   Shut num p = record { outcome = says.shutEarly num p; size = 0 }
 
-  recheck-shut : {num p : ℕ} → ShutAt new log places num p → says.recheck old new log places ≡ Shut num p
-  recheck-shut {num} {p} s = go (says.readGood old) (says.readGood new)
+  recheck-refused : {num p : ℕ} → RefusedAt new log places num p → says.recheck old new log places ≡ Shut num p
+  recheck-refused {num} {p} s = go (says.readGood old) (says.readGood new)
     where
       early : (n : ℕ) (next : Model → says.Outcome) → says.sized n (says.guarded new log places next) ≡ Shut num p
       early n next = ap (says.sized n) (s .1 next) ∙ sized-early n num p (s .0)
@@ -107,8 +108,8 @@ module _ (old new log : List ℤ) (places : ℕ) where
       go (says.good o) says.bad = early _ _
       go (says.good o) (says.good n) = fit o n (says.fitsOld o n)
 
-  pub rechecks-shut : (lent : List ℕ) (num p : ℕ) → ShutAt new log places num p → Rechecks (record { answer = answer.Shut num 0 p; changed = 0; judged = 0 }) lent lent (says.recheck old new log places)
-  rechecks-shut lent num p s = rw (recheck-shut s) (record { answered = refl; noted = refl; sized = refl; counted = refl; named = tt })
+  pub rechecks-refused : (lent : List ℕ) (num p : ℕ) → RefusedAt new log places num p → Rechecks (record { answer = answer.Refused num 0 p; changed = 0; judged = 0 }) lent lent (says.recheck old new log places)
+  rechecks-refused lent num p s = rw (recheck-refused s) (record { answered = refl; noted = refl; sized = refl; counted = refl; named = tt })
 
   module _ {starts : List ℕ} {v c : ℕ} (way : OpenTo new log places starts v c) where
     abbrev walk : Bool → ℕ → says.Outcome

@@ -1,9 +1,11 @@
 pub mod Told
-pub mod Onward
-pub mod Going
-pub mod Stepping
-pub mod Sofar
+pub mod LeadsTo
+pub mod FromStep
+pub mod OneStep
+pub mod BetweenSteps
 pub mod Entry
 pub mod Checks
+pub mod Written
+pub mod WrittenSo
 pub mod Only
 pub mod Demands

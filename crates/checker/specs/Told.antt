@@ -1,5 +1,5 @@
 -- What the answers tell: document 01's numbers and values for each case.
-use Prim.Native.Nat.{ℕ, _<_, _≤_}
+use Prim.Native.Nat.{ℕ, _+_, _*_, _<_, _≤_}
 use native.Mathlib.Omega.{arith}
 use mathlib.Core.Path.{_≡_, refl}
 use mathlib.Core.Bool.{Bool, true, false}
@@ -8,6 +8,7 @@ use lib.Dec.{ltb}
 use lib.Count.{ones}
 use lib.IntN.{ℤ}
 use lib.ListN.{length, drop}
+use Rattle.meaning.specs.Limits.{mostVariables, mostPremises, mostHints}
 use Rattle.meaning.specs.Log.{Fact}
 use Rattle.meaning.specs.Log as log
 use Rattle.meaning.specs.Check as says
@@ -25,11 +26,11 @@ use Rattle.checker.specs.declared.Moved.{Moved}
 use Rattle.checker.specs.declared.Moved.the-variants as moved
 
 abbrev pub toldConclusion : Conclusion → says.Conclusion
-toldConclusion conclusion.Nothing = says.nothing
-toldConclusion (conclusion.AtLeast x v) = says.atLeast (x .0) v
+toldConclusion conclusion.NoAssignment = says.nothing
+toldConclusion (conclusion.NeverBelow x v) = says.atLeast (x .0) v
 
 abbrev pub toldAnswer : Answer → says.Answer
-toldAnswer (answer.Shut num k p) = says.shut num k p
+toldAnswer (answer.Refused num k p) = says.shut num k p
 toldAnswer (answer.Accepted c) = says.accepted (toldConclusion c)
 toldAnswer (answer.Carried c) = says.carried (toldConclusion c)
 
@@ -67,15 +68,19 @@ concludedIf false c held next = moved.Ends c held
 abbrev pub concluded : Conclusion → Bool → ℕ → ℕ → Moved
 concluded c held next len = concludedIf (ltb next len) c held next
 
-abbrev pub turned : Step → Bool → ℕ → ℕ → Moved
-turned (step.Inference r f) held next len = moved.Goes next held
-turned (step.Deduction f h n) held next len = moved.Goes next held
-turned (step.NoAssignment k) held next len = concluded conclusion.Nothing held next len
-turned (step.NeverBelow x a k) held next len = concluded (conclusion.AtLeast x a) held next len
+abbrev pub afterPassing : Step → Bool → ℕ → ℕ → Moved
+afterPassing (step.Inference r f) held next len = moved.Goes next held
+afterPassing (step.Deduction f h n) held next len = moved.Goes next held
+afterPassing (step.NoAssignment k) held next len = concluded conclusion.NoAssignment held next len
+afterPassing (step.NeverBelow x a k) held next len = concluded (conclusion.NeverBelow x a) held next len
 
 abbrev pub notRead : StepAnswer → Moved
 notRead (read.Is t n) = moved.Stops 0 n false
 notRead (read.Refused num p) = moved.Stops num p false
+
+-- the table has the words of a box of v variables, with the atoms of a fact and the hints of a deduction
+abbrev pub BoxRoom : ℕ → List ℤ → Type 0
+BoxRoom v cells = 2 * v + 2 * (mostPremises + 1 + mostHints) + 2 ≤ length cells
 
 -- the row that an inference cites is below n
 abbrev pub RowBelow : ℕ → Step → Type 0
@@ -84,35 +89,35 @@ RowBelow n (step.Deduction f h m) = Unit {0}
 RowBelow n (step.NoAssignment k) = Unit {0}
 RowBelow n (step.NeverBelow x a k) = Unit {0}
 
-abbrev pub saidBy : Bool → Conclusion → Answer
-saidBy true c = answer.Accepted c
-saidBy false c = answer.Carried c
+abbrev pub answerBy : Bool → Conclusion → Answer
+answerBy true c = answer.Accepted c
+answerBy false c = answer.Carried c
 
-pub said-told : (b : Bool) (c : Conclusion) → toldAnswer (saidBy b c) ≡ sayBy b (toldConclusion c)
-said-told true c = refl
-said-told false c = refl
+pub answer-told : (b : Bool) (c : Conclusion) → toldAnswer (answerBy b c) ≡ sayBy b (toldConclusion c)
+answer-told true c = refl
+answer-told false c = refl
 
 -- the variable that is named is below n
 abbrev pub ConclusionIn : ℕ → Conclusion → Type 0
-ConclusionIn n conclusion.Nothing = Unit {0}
-ConclusionIn n (conclusion.AtLeast x v) = x .0 < n
+ConclusionIn n conclusion.NoAssignment = Unit {0}
+ConclusionIn n (conclusion.NeverBelow x v) = x .0 < n
 
 abbrev pub NamesIn : ℕ → Answer → Type 0
-NamesIn n (answer.Shut num k p) = Unit {0}
+NamesIn n (answer.Refused num k p) = Unit {0}
 NamesIn n (answer.Accepted c) = ConclusionIn n c
 NamesIn n (answer.Carried c) = ConclusionIn n c
 
-pub said-names : (n : ℕ) (b : Bool) (c : Conclusion) → ConclusionIn n c → NamesIn n (saidBy b c)
-said-names n true c h = h
-said-names n false c h = h
+pub answer-names : (n : ℕ) (b : Bool) (c : Conclusion) → ConclusionIn n c → NamesIn n (answerBy b c)
+answer-names n true c h = h
+answer-names n false c h = h
 
 -- the answer tells the outcome, and the places hold its starts and are otherwise as they were lent
 pub record Tells (r : Walked) (lent left : List ℕ) (o : says.Outcome) : Type 0 where
   pub answered : toldAnswer (r .answer) ≡ o .answer
   pub counted : r .judged ≡ o .judged
   pub noted : left ≡ o .starts ++ drop (length (o .starts)) lent
-  pub named : NamesIn 64 (r .answer)
+  pub named : NamesIn mostVariables (r .answer)
 
 pub few-names : (m n : ℕ) (c : Conclusion) → m ≤ n → ConclusionIn m c → ConclusionIn n c
-few-names m n conclusion.Nothing l h = tt
-few-names m n (conclusion.AtLeast x v) l h = omega arith
+few-names m n conclusion.NoAssignment l h = tt
+few-names m n (conclusion.NeverBelow x v) l h = omega arith

@@ -4,21 +4,29 @@ pub mod walk;
 
 use amend;
 use amend::Amended;
+use reading::limits::MOST_HINTS;
+use reading::limits::MOST_PREMISES;
+use reading::limits::MOST_ROWS;
+use reading::limits::MOST_VARIABLES;
 use words::VarNo;
 ghost use mathlib.Core.Path.{_≡_};
 ghost use Prim.Native.Nat.{_≤_};
 ghost use lib.ListN.{length};
+ghost use Rattle.meaning.specs.Limits.{mostRows};
 ghost use Rattle.meaning.specs.Check.{check, recheck};
 ghost use Rattle.checker.specs.Checks.{Checks, Rechecks};
 ghost use Rattle.checker.specs.Told.{sizeBy};
 
+// The words of a step's box: two counts, two ends for each variable, and two words for each atom of the fact and for each hint.
+const BOX_WORDS: usize = 2 * MOST_VARIABLES + 2 * (MOST_PREMISES + 1 + MOST_HINTS) + 2;
+
 pub enum Conclusion {
-    Nothing,
-    AtLeast(VarNo, i32),
+    NoAssignment,
+    NeverBelow(VarNo, i32),
 }
 
 pub enum Answer {
-    Shut {
+    Refused {
         number: u32,
         step: u32,
         position: u32,
@@ -27,8 +35,8 @@ pub enum Answer {
     Carried(Conclusion),
 }
 
-// The size of the model, and which steps are held against their rule: all in whole mode, else the inferences that cite a changed row.
-pub struct Plan {
+// What the walk has to do: against how large a model, and which steps it holds against their rule: all in whole mode, else the inferences that cite a changed row.
+pub struct Task {
     pub variables: usize,
     pub rows: usize,
     pub whole: bool,
@@ -51,9 +59,9 @@ pub struct Walked {
     pub judged: u32,
 }
 
-// The gate before the walk: a refusal's number and position, or the number of variables and of rows of a good model.
+// What stands before the walk: a refusal's number and position, or the number of variables and of rows of a good model.
 pub enum Entered {
-    Shut(u32, u32),
+    Refused(u32, u32),
     Open(usize, usize),
 }
 
@@ -68,25 +76,25 @@ pub struct Rechecked {
 pub fn check(model: &[i32], log: &[i32], places: &mut [u32]) -> Answer
     ensures { λ r. ⌜ Checks r (now (places .entry)) (now (places .exit)) (check (now (model .entry)) (now (log .entry)) (length (now (places .entry)))) ⌝ }
 {
-    let mut starts = [0u32; 64];
-    let e = entry::enter(model, log, places.len(), &mut starts);
+    let mut row_starts = [0u32; MOST_ROWS];
+    let e = entry::enter(model, log, places.len(), &mut row_starts);
     let Entered::Open(variables, rows) = e else {
-        return entry::shut(e);
+        return entry::refusal(e);
     };
-    let mut cells = [0i32; 292];
-    let plan = Plan {
+    let mut cells = [0i32; BOX_WORDS];
+    let task = Task {
         variables,
         rows,
         whole: true,
         changed: 0,
     };
-    let w = walk::walk(model, &starts, plan, log, &mut *places, &mut cells);
+    let w = walk::walk(model, &row_starts, task, log, &mut *places, &mut cells);
     w.answer
 }
 
-// In whole mode every row counts as changed.
-fn size(amended: Amended, rows: usize) -> u32
-    requires { ⌜ rows ≤ 64 ⌝ }
+// How many rows are reported: in whole mode all.
+fn changed_rows(amended: Amended, rows: usize) -> u32
+    requires { ⌜ rows ≤ mostRows ⌝ }
     ensures { λ r. ⌜ r ≡ sizeBy (amended .whole) (amended .changed) rows ⌝ }
 {
     if amended.whole {
@@ -99,25 +107,25 @@ fn size(amended: Amended, rows: usize) -> u32
 pub fn recheck(old: &[i32], new: &[i32], log: &[i32], places: &mut [u32]) -> Rechecked
     ensures { λ r. ⌜ Rechecks r (now (places .entry)) (now (places .exit)) (recheck (now (old .entry)) (now (new .entry)) (now (log .entry)) (length (now (places .entry)))) ⌝ }
 {
-    let mut starts = [0u32; 64];
-    let e = entry::enter(new, log, places.len(), &mut starts);
+    let mut row_starts = [0u32; MOST_ROWS];
+    let e = entry::enter(new, log, places.len(), &mut row_starts);
     let Entered::Open(variables, rows) = e else {
         return Rechecked {
-            answer: entry::shut(e),
+            answer: entry::refusal(e),
             changed: 0,
             judged: 0,
         };
     };
-    let amended = amend::compare(old, new, &starts, variables, rows);
-    let mut cells = [0i32; 292];
-    let plan = Plan {
+    let amended = amend::compare(old, new, &row_starts, variables, rows);
+    let mut cells = [0i32; BOX_WORDS];
+    let task = Task {
         variables,
         rows,
         whole: amended.whole,
         changed: amended.changed,
     };
-    let w = walk::walk(new, &starts, plan, log, &mut *places, &mut cells);
-    let changed = size(amended, rows);
+    let w = walk::walk(new, &row_starts, task, log, &mut *places, &mut cells);
+    let changed = changed_rows(amended, rows);
     let answer = w.answer;
     Rechecked {
         answer,

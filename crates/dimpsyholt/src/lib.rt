@@ -4,6 +4,7 @@ use checker::Answer;
 use checker::Conclusion;
 ghost use mathlib.Core.Path.{_≡_};
 ghost use lib.ListN.{length};
+ghost use Rattle.meaning.specs.Limits.{mostVariables};
 ghost use Rattle.meaning.specs.Check as says;
 ghost use Rattle.checker.specs.Told.{toldConclusion, toldAnswer, ConclusionIn, NamesIn};
 ghost use Rattle.dimpsyholt.specs.Fields.{reached, fieldsOf, CheckTold, RecheckTold};
@@ -41,11 +42,11 @@ fn refused(number: u32, step: u32, position: u32, changed: u32, judged: u32) -> 
 
 // A conclusion that was reached, accepted or carried by the kind.
 fn reached(kind: u32, c: Conclusion, changed: u32, judged: u32) -> DimpsyholtAnswer
-    requires { ⌜ ConclusionIn 64 c ⌝ }
+    requires { ⌜ ConclusionIn mostVariables c ⌝ }
     ensures { λ r. ⌜ r ≡ reached kind (toldConclusion c) changed judged ⌝ }
 {
     match c {
-        Conclusion::Nothing => DimpsyholtAnswer {
+        Conclusion::NoAssignment => DimpsyholtAnswer {
             kind,
             number: 0,
             step: 0,
@@ -56,7 +57,7 @@ fn reached(kind: u32, c: Conclusion, changed: u32, judged: u32) -> DimpsyholtAns
             changed,
             judged,
         },
-        Conclusion::AtLeast(x, value) => DimpsyholtAnswer {
+        Conclusion::NeverBelow(x, value) => DimpsyholtAnswer {
             kind,
             number: 0,
             step: 0,
@@ -72,11 +73,11 @@ fn reached(kind: u32, c: Conclusion, changed: u32, judged: u32) -> DimpsyholtAns
 
 // The nine numbers of an answer.
 fn fields(answer: Answer, changed: u32, judged: u32) -> DimpsyholtAnswer
-    requires { ⌜ NamesIn 64 answer ⌝ }
+    requires { ⌜ NamesIn mostVariables answer ⌝ }
     ensures { λ r. ⌜ r ≡ fieldsOf (toldAnswer answer) changed judged ⌝ }
 {
     match answer {
-        Answer::Shut {
+        Answer::Refused {
             number,
             step,
             position,

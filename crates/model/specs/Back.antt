@@ -10,6 +10,7 @@ use lib.ListN.{length, getD, drop}
 use lib.Signed.{_≤ℤ_}
 use Rattle.words.specs.Int.{zz, abs-is, one-side}
 use Rattle.words.specs.Lists.{member}
+use Rattle.meaning.specs.Limits.{mostParts, mostValue, mostCoefficient, mostDuration, mostUsage}
 use Rattle.meaning.specs.Read.{Got, got, refused, neg}
 use Rattle.meaning.specs.Model.{variableOf, freshWord, fresh, distinct, boundsPair, term, activity, rowOfKind, row}
 use Rattle.reading.specs.At.{At, intAt, natAt, eachAt, Names, Between, Each}
@@ -19,45 +20,45 @@ use Rattle.model.specs.Rows.{boundsAt, termAt, activityAt, rowKindAt, ro
 two : (p : ℕ) → p + 1 + 1 ≡ p + 2
 two p = omega arith
 
--- ---- bounds: low and high are ordered and within 100,000 of 0
+-- ---- bounds: low and high are ordered and within the limit of 0
 pub record BoundsIn (s : List ℤ) (p : ℕ) : Type 0 where
   pub fits : p + 2 ≤ length s
-  pub low : natAbs (getD s p (pos 0)) ≤ 100000
-  pub high : natAbs (getD s (p + 1) (pos 0)) ≤ 100000
+  pub low : natAbs (getD s p (pos 0)) ≤ mostValue
+  pub high : natAbs (getD s (p + 1) (pos 0)) ≤ mostValue
   pub ordered : getD s p (pos 0) ≤ℤ getD s (p + 1) (pos 0)
 
-bounds-in : (s : List ℤ) (p : ℕ) → Ranged (neg 100000) (pos 100000) s p → Ranged (intAt s p) (pos 100000) s (p + 1) → BoundsIn s p
+bounds-in : (s : List ℤ) (p : ℕ) → Ranged (neg mostValue) (pos mostValue) s p → Ranged (intAt s p) (pos mostValue) s (p + 1) → BoundsIn s p
 bounds-in s p l h =
     let a = intAt s p in
     let b = intAt s (p + 1) in
-    let m = ranged-orders (neg 100000) (pos 100000) a (l .1) in
-    let o = ranged-orders a (pos 100000) b (h .1) in
-    record { fits = omega (arith, h .0); low = ranged-size 99999 a (l .1); high = omega (arith, zz, m .0, o .0, o .1, abs-is b, one-side b); ordered = o .0 }
+    let m = ranged-orders (neg mostValue) (pos mostValue) a (l .1) in
+    let o = ranged-orders a (pos mostValue) b (h .1) in
+    record { fits = omega (arith, h .0); low = ranged-size mostValue (omega arith) a (l .1); high = omega (arith, zz, m .0, o .0, o .1, abs-is b, one-side b); ordered = o .0 }
 
 pub bounds-back : Back boundsPair boundsAt (λ s p. p + 2) BoundsIn
 bounds-back =
-    said-as (bind-back (word-back 4 5 (neg 100000) (pos 100000)) (λ l. bind-back (word-back 4 5 l (pos 100000)) (λ h. give-back _)))
+    said-as (bind-back (word-back 4 5 (neg mostValue) (pos mostValue)) (λ l. bind-back (word-back 4 5 l (pos mostValue)) (λ h. give-back _)))
     (λ s p h. refl)
     (λ s p h. omega arith)
     (λ s p h. bounds-in s p (h .0) (h .1 .0))
 
 -- ---- one part of a row
 abbrev TermIn : ℕ → Known
-TermIn v s p = (natAbs (intAt s p) ≤ 1000000) × Names v s (p + 1)
+TermIn v s p = (natAbs (intAt s p) ≤ mostCoefficient) × Names v s (p + 1)
 
 term-back : (v : ℕ) → Back (term v) termAt (λ s p. p + 2) (TermIn v)
 term-back v =
-    said-as (bind-back (word-back 4 5 (neg 1000000) (pos 1000000)) (λ c. bind-back (below-back 4 5 v) (λ x. give-back _)))
+    said-as (bind-back (word-back 4 5 (neg mostCoefficient) (pos mostCoefficient)) (λ c. bind-back (below-back 4 5 v) (λ x. give-back _)))
     (λ s p h. refl)
     (λ s p h. omega arith)
-    (λ s p h. (ranged-size 999999 (intAt s p) (h .0 .1), h .1 .0))
+    (λ s p h. (ranged-size mostCoefficient (omega arith) (intAt s p) (h .0 .1), h .1 .0))
 
 abbrev ActivityIn : ℕ → Known
-ActivityIn v s p = Names v s p × Between 1 10000 s (p + 1) × Between 0 1000000 s (p + 2)
+ActivityIn v s p = Names v s p × Between 1 mostDuration s (p + 1) × Between 0 mostUsage s (p + 2)
 
 activity-back : (v : ℕ) → Back (activity v) activityAt (λ s p. p + 3) (ActivityIn v)
 activity-back v =
-    said-as (bind-back (below-back 4 5 v) (λ x. bind-back (count-back 4 5 1 10000) (λ d. bind-back (count-back 4 5 0 1000000) (λ u. give-back _))))
+    said-as (bind-back (below-back 4 5 v) (λ x. bind-back (count-back 4 5 1 mostDuration) (λ d. bind-back (count-back 4 5 0 mostUsage) (λ u. give-back _))))
     (λ s p h. rw (two p))
     (λ s p h. omega arith)
     (λ s p h. (h .0, h .1 .0, rw (two p) at (h .1 .1 .0)))
@@ -94,7 +95,7 @@ rowKindNext (suc (suc (suc (suc k)))) s p = p + 1 + natAt s p
 abbrev pub rowNext : At ℕ
 rowNext s p = rowKindNext (natAt s p) s (p + 1)
 
-counted-in : (lo : ℕ) (s : List ℤ) (p : ℕ) → Between lo 16 s p → Counted lo s p
+counted-in : (lo : ℕ) (s : List ℤ) (p : ℕ) → Between lo mostParts s p → Counted lo s p
 counted-in lo s p h = record { inside = h .inside; signless = h .signless; from = h .from; upto = h .upto }
 
 terms-in : (v n : ℕ) (s : List ℤ) (p : ℕ) → p ≤ length s → Each (TermIn v) 2 n s p → TermsIn v s p n
@@ -113,22 +114,22 @@ KindKnown v k s p = k ≤ 4 → KindIn v s p k
 row-kind-back : (v k : ℕ) → Back (rowOfKind v k) (rowKindAt k) (rowKindNext k) (KindKnown v k)
 row-kind-back v zero = refuse-back 5 _ _ _
 row-kind-back v (suc zero) =
-    said-as (bind-back (count-back 4 5 1 16) (λ n. bind-back (word-back 4 5 (neg 2147483648) (pos 2147483647)) (λ b. bind-back (times-back (term-back v) n) (λ ts. give-back _))))
+    said-as (bind-back (count-back 4 5 1 mostParts) (λ n. bind-back (word-back 4 5 (neg 2147483648) (pos 2147483647)) (λ b. bind-back (times-back (term-back v) n) (λ ts. give-back _))))
     (λ s p h. rw (two p))
     (λ s p h. omega arith)
     (λ s p h k. linear-in (counted-in 1 s p (h .0)) (h .1 .0 .0) (terms-in v (natAt s p) s (p + 2) (omega (arith, h .1 .0 .0)) (rw (two p) at (h .1 .1 .0))))
 row-kind-back v (suc (suc zero)) =
-    said-as (bind-back (count-back 4 5 2 16) (λ n. bind-back (distinct-back v n []) (λ xs. give-back _)))
+    said-as (bind-back (count-back 4 5 2 mostParts) (λ n. bind-back (distinct-back v n []) (λ xs. give-back _)))
     (λ s p h. refl)
     (λ s p h. omega arith)
     (λ s p h k. all-different-in (counted-in 2 s p (h .0)) (variables-in v (natAt s p) s (p + 1) (omega (arith, h .0 .inside)) (h .1 .0)))
 row-kind-back v (suc (suc (suc zero))) =
-    said-as (bind-back (count-back 4 5 1 16) (λ n. bind-back (count-back 4 5 0 1000000) (λ c. bind-back (times-back (activity-back v) n) (λ acts. give-back _))))
+    said-as (bind-back (count-back 4 5 1 mostParts) (λ n. bind-back (count-back 4 5 0 mostUsage) (λ c. bind-back (times-back (activity-back v) n) (λ acts. give-back _))))
     (λ s p h. rw (two p))
     (λ s p h. omega arith)
     (λ s p h k. cumulative-in (counted-in 1 s p (h .0)) (h .1 .0 .inside) (between-orders (h .1 .0)) (activities-in v (natAt s p) s (p + 2) (omega (arith, h .1 .0 .inside)) (rw (two p) at (h .1 .1 .0))))
 row-kind-back v (suc (suc (suc (suc k)))) =
-    said-as (bind-back (count-back 4 5 2 16) (λ n. bind-back (distinct-back v n []) (λ xs. give-back _)))
+    said-as (bind-back (count-back 4 5 2 mostParts) (λ n. bind-back (distinct-back v n []) (λ xs. give-back _)))
     (λ s p h. refl)
     (λ s p h. omega arith)
     (λ s p h l. let q : 4 ≡ suc (suc (suc (suc k))) = omega arith in subst (KindIn v s p) q (circuit-in (counted-in 2 s p (h .0)) (variables-in v (natAt s p) s (p + 1) (omega (arith, h .0 .inside)) (h .1 .0))))

@@ -11,11 +11,17 @@ use lib.ListN.{getD, drop}
 use lib.Signed.{_≤ℤ_}
 use lib.Dec.{eqb}
 use Rattle.words.specs.Lists.{member}
+use Rattle.reading.specs.At.{natAt}
 use Rattle.reading.specs.Back.{below-back, below-stands}
+use Rattle.reading.specs.Over.{is-refused, got-over, found}
+use Rattle.reading.specs.Told.{toldPast, Skims}
+use Rattle.reading.specs.declared.Past.{Past}
+use Rattle.reading.specs.declared.Past.the-variants as past
+use Rattle.meaning.specs.Limits.{mostParts}
 use borrow.Author.Tests.{eq-eqb, ne-eqb}
 use Rattle.words.specs.Int.{zz}
 use Rattle.meaning.specs.Read.{Got, got, refused, bindGot, _>>=_, give, count}
-use Rattle.reading.specs.Reading.{skim, skim-give}
+use Rattle.reading.specs.Reading.{skim, skim-give, skim-refused}
 use Rattle.meaning.specs.Model.{variableOf, freshWord, distinct, rowOfKind, allDifferent, circuit}
 
 -- ---- the variables that stand in i words from a position, the last first
@@ -62,41 +68,58 @@ module _ (v k at : ℕ) (old : List ℕ) (ws : List ℤ) where
   pub distinct-stop : {num p : ℕ} → variableOf v at ws ≡ refused num p → skim (distinct v (suc k) old at ws) ≡ refused num p
   distinct-stop e = rw e
 
--- ---- a loop over n variables from a position: what is left to read after i of them
-module _ (v : ℕ) (s : List ℤ) (n from : ℕ) where
-  abbrev pub freshLeft : ℕ → ℕ → Got (Unit {0})
-  freshLeft i at = skim (distinct v (n - i) (seen s from (at - from)) at (drop at s))
+-- ---- n variables in turn: i were read, and the next begins at `at`
+abbrev freshLeft : ℕ → List ℤ → ℕ → ℕ → ℕ → ℕ → Got (Unit {0})
+freshLeft v s from n at i = skim (distinct v (n - i) (seen s from (at - from)) at (drop at s))
 
-  pub fresh-all : skim (distinct v n [] from (drop from s)) ≡ freshLeft 0 from
-  unfolding seen
-  fresh-all = rw (sub-zero, sub-self)
+pub record Fresh (v : ℕ) (s : List ℤ) (from n at i : ℕ) : Type 0 where
+  pub few : i ≤ n
+  pub onward : from ≤ at
+  pub numbers : NonNeg s from at
+  pub rest : skim (distinct v n [] from (drop from s)) ≡ freshLeft v s from n at i
 
-  suc-left : (i : ℕ) → i < n → n - i ≡ suc (n - (i + 1))
-  suc-left i h = omega arith
+pub first-fresh : (v : ℕ) (s : List ℤ) (from n : ℕ) → Fresh v s from n from 0
+unfolding seen
+first-fresh v s from n = record { few = omega arith; onward = omega arith; numbers = none-yet s from; rest = rw (sub-zero, sub-self) }
 
-  pub fresh-more : (i at : ℕ) {x m : ℕ} → i < n → from ≤ at → variableOf v at (drop at s) ≡ got x m (drop m s) → member eqb x (seen s from (at - from)) ≡ false → freshLeft i at ≡ freshLeft (i + 1) m
-  fresh-more i at {x} {m} h l e q =
-      let c = below-back 4 5 v .back s at e in
-      let k : seen s from (m - from) ≡ x ∷ seen s from (at - from) = ap (λ (j : ℕ). seen s from (j - from)) (c .next) ∙ seen-more s from at x l (below-stands 4 5 v s at e) in
-      rw (suc-left i h, k) (distinct-more v (n - (i + 1)) at (seen s from (at - from)) (drop at s) e q)
+module _ {v : ℕ} {s : List ℤ} {from n at i : ℕ} (t : Fresh v s from n at i) where
+  pub fresh-ends : n ≤ i → Skims (distinct v n []) s from (past.Next at)
+  fresh-ends l = let z : n - i ≡ 0 = omega arith in record { told = sym (t .rest ∙ rw z) }
 
-  pub fresh-twice : (i at : ℕ) {x m : ℕ} → i < n → variableOf v at (drop at s) ≡ got x m (drop m s) → member eqb x (seen s from (at - from)) ≡ true → freshLeft i at ≡ refused 6 at
-  fresh-twice i at h e q = rw (suc-left i h) (distinct-twice v (n - (i + 1)) at (seen s from (at - from)) (drop at s) e q)
+  module _ {p : Past} (l : i < n) (h : Skims (variableOf v) s at p) where
+    left : n - i ≡ suc (n - (i + 1))
+    left = omega arith
 
-  pub fresh-stop : (i at : ℕ) {num p : ℕ} → i < n → variableOf v at (drop at s) ≡ refused num p → freshLeft i at ≡ refused num p
-  fresh-stop i at h e = rw (suc-left i h) (distinct-stop v (n - (i + 1)) at (seen s from (at - from)) (drop at s) e)
+    pub fresh-stops : {c q : ℕ} → p ≡ past.Refused c q → Skims (distinct v n []) s from p
+    fresh-stops e = record { told = ap (toldPast s) e ∙ sym (t .rest ∙ rw left (distinct-stop v (n - (i + 1)) at (seen s from (at - from)) (drop at s) (skim-refused (variableOf v at (drop at s)) (is-refused h e)))) }
 
-  pub fresh-none : (i at : ℕ) → n ≤ i → freshLeft i at ≡ got tt at (drop at s)
-  fresh-none i at h = let z : n - i ≡ 0 = omega arith in rw z
+    module _ {m x : ℕ} (e : p ≡ past.Next m) (k : x ≡ natAt s at) where
+      is : variableOf v at (drop at s) ≡ got x m (drop m s)
+      is = rw k (got-over h (below-back 4 5 v) e)
+
+      pub fresh-twice : member eqb x (seen s from (at - from)) ≡ true → Skims (distinct v n []) s from (past.Refused 6 at)
+      fresh-twice w = record { told = sym (t .rest ∙ rw left (distinct-twice v (n - (i + 1)) at (seen s from (at - from)) (drop at s) is w)) }
+
+      pub fresh-more : member eqb x (seen s from (at - from)) ≡ false → Fresh v s from n m (i + 1)
+      fresh-more w =
+          let o = found h (below-back 4 5 v) e .next in
+          let d = below-stands 4 5 v s at is in
+          let j : seen s from (m - from) ≡ x ∷ seen s from (at - from) = ap (λ (j : ℕ). seen s from (j - from)) o ∙ seen-more s from at x (t .onward) d in
+          record {
+            few = omega arith;
+            onward = omega (arith, o, t .onward);
+            numbers = rw o (one-more s from at x (t .onward) d (t .numbers));
+            rest = t .rest ∙ rw (left, j) (distinct-more v (n - (i + 1)) at (seen s from (at - from)) (drop at s) is w);
+          }
 
 -- ---- the kinds: 2 and 4 are read alike
 alike : (v : ℕ) (g : Got ℕ) → skim (bindGot g (λ n. distinct v n [] >>= λ xs. give (circuit xs))) ≡ skim (bindGot g (λ n. distinct v n [] >>= λ xs. give (allDifferent xs)))
 alike v (got n at ws) = skim-give (distinct v n [] at ws) circuit ∙ sym (skim-give (distinct v n [] at ws) allDifferent)
 alike v (refused num p) = refl
 
-pub kinds-alike : (v k at : ℕ) (ws : List ℤ) → 1 ≤ k → (k ≡ 1 → ⊥) → (k ≡ 3 → ⊥) → skim (rowOfKind v k at ws) ≡ skim (rowOfKind v 2 at ws)
-kinds-alike v zero at ws p q r = absurd (omega arith)
-kinds-alike v (suc zero) at ws p q r = absurd (q refl)
-kinds-alike v (suc (suc zero)) at ws p q r = refl
-kinds-alike v (suc (suc (suc zero))) at ws p q r = absurd (r refl)
-kinds-alike v (suc (suc (suc (suc k)))) at ws p q r = alike v (count 4 5 2 16 at ws)
+pub kinds-alike : (v k : ℕ) {s : List ℤ} {at : ℕ} {p : Past} → 1 ≤ k → (k ≡ 1 → ⊥) → (k ≡ 3 → ⊥) → Skims (rowOfKind v 2) s at p → Skims (rowOfKind v k) s at p
+kinds-alike v zero l a b h = absurd (omega arith)
+kinds-alike v (suc zero) l a b h = absurd (a refl)
+kinds-alike v (suc (suc zero)) l a b h = h
+kinds-alike v (suc (suc (suc zero))) l a b h = absurd (b refl)
+kinds-alike v (suc (suc (suc (suc k)))) {s} {at} l a b h = record { told = h .told ∙ sym (alike v (count 4 5 2 mostParts at (drop at s))) }

@@ -8,19 +8,18 @@ use lib.ListN.{length, getD, drop, length-map, List·getD-append}
 use lib.Seq.{sets, sets-eq}
 use Rattle.words.specs.Lists.{All, empty, also}
 use Rattle.words.specs.ListFacts.{each-at}
-use Rattle.meaning.specs.Read.{Got, got, refused, times}
+use Rattle.meaning.specs.Limits.{mostVariables, mostRows}
+use Rattle.meaning.specs.Read.{got, refused, times}
 use Rattle.meaning.specs.Model.{Bounds, Row, Model, number, boundsPair, row, end, readModel}
 use Rattle.meaning.specs.Outcomes.{ModelWrong, outside, twice, after}
 use Rattle.meaning.specs.Proved.Reading.{Fair, short, off}
 use Rattle.meaning.specs.Proved.ReadModel.{KnownModel, reads-model}
-use Rattle.reading.specs.At.{eachAt, getD-each}
-use Rattle.reading.specs.Reading.{skim, bind-got, times-length, counted}
+use Rattle.reading.specs.At.{natAt, eachAt, getD-each, Between}
+use Rattle.reading.specs.Reading.{bind-got, times-length}
 use Rattle.reading.specs.Back.{times-back, count-back, bind-at}
 use Rattle.model.specs.Rows.{boundsAt, rowAt, RowIn}
 use Rattle.model.specs.Back.{BoundsIn, bounds-back, row-back}
 use Rattle.model.specs.Starts.{rowStarts, modelStarts}
-use Rattle.model.specs.Stages.{starts-are}
-use Rattle.model.specs.Told.{good, shut, saysModel}
 
 -- ---- the rows of a model are the rows at its starts
 pub record AtStarts (v : ℕ) (s : List ℤ) (rs : List Row) (starts : List ℕ) : Type 0 where
@@ -48,9 +47,10 @@ rows-at-starts v (suc c) s at {rs} e =
 
 -- ---- a good model, from its reading alone
 pub record Good (s : List ℤ) (m : Model) : Type 0 where
-  pub some-variable : 1 ≤ length (m .bounds)
-  pub few-variables : length (m .bounds) ≤ 64
-  pub few-rows : length (m .rows) ≤ 64
+  pub variables-are : length (m .bounds) ≡ natAt s 0
+  pub variables-in : Between 1 mostVariables s 0
+  pub rows-counted : length (m .rows) ≡ natAt s (1 + length (m .bounds) * 2)
+  pub rows-number : Between 0 mostRows s (1 + length (m .bounds) * 2)
   pub bounds-are : m .bounds ≡ eachAt boundsAt 2 (length (m .bounds)) s 1
   pub bounds-in : (x : ℕ) → x < length (m .bounds) → BoundsIn s (1 + x * 2)
   pub rows-are : m .rows ≡ map (rowAt s) (modelStarts s)
@@ -60,19 +60,25 @@ end-got : (x m : Model) (at n : ℕ) (ws : List ℤ) {vs : List ℤ} → end x a
 end-got x m at n [] e = cc
 end-got x m at n (w ∷ ws) e = let z : _≡_ {A = ℕ} 0 1 = cc in absurd (omega arith)
 
-good-by : (s : List ℤ) {v a n c from o : ℕ} {bs : List Bounds} {rs : List Row} {us : List ℤ} → number 1 64 0 s ≡ got v a (drop a s) → times v boundsPair a (drop a s) ≡ got bs n (drop n s) → number 0 64 n (drop n s) ≡ got c from (drop from s) → times c (row v) from (drop from s) ≡ got rs o us → Good s (record { bounds = bs; rows = rs })
+starts-are : (s : List ℤ) {v a n c from : ℕ} {bs : List Bounds} → number 1 mostVariables 0 s ≡ got v a (drop a s) → times v boundsPair a (drop a s) ≡ got bs n (drop n s) → number 0 mostRows n (drop n s) ≡ got c from (drop from s) → modelStarts s ≡ rowStarts v c from (drop from s)
+unfolding modelStarts
+starts-are s e₁ e₂ e₃ = rw (e₁, e₂, e₃)
+
+good-by : (s : List ℤ) {v a n c from o : ℕ} {bs : List Bounds} {rs : List Row} {us : List ℤ} → number 1 mostVariables 0 s ≡ got v a (drop a s) → times v boundsPair a (drop a s) ≡ got bs n (drop n s) → number 0 mostRows n (drop n s) ≡ got c from (drop from s) → times c (row v) from (drop from s) ≡ got rs o us → Good s (record { bounds = bs; rows = rs })
 good-by s {v} {a} {n} {c} {from} {bs = bs} {rs = rs} e₁ e₂ e₃ e₄ =
-    let x = counted 4 5 1 64 0 s e₁ in
-    let y = counted 4 5 0 64 n s e₃ in
+    let x = count-back 4 5 1 mostVariables .back s 0 e₁ in
+    let b = times-back bounds-back v .back s a e₂ in
+    let y = count-back 4 5 0 mostRows .back s n e₃ in
     let lb = times-length boundsPair v a (drop a s) e₂ in
     let lr = times-length (row v) c from (drop from s) e₄ in
-    let b = times-back bounds-back v .back s a e₂ in
     let r = rows-at-starts v c s from e₄ in
-    let q = sym (starts-are s e₁ (ap skim e₂) e₃) in
+    let q = sym (starts-are s e₁ e₂ e₃) in
+    let z : n ≡ 1 + length bs * 2 = omega (arith, x .next, b .next, lb) in
     record {
-      some-variable = omega (arith, lb, x);
-      few-variables = omega (arith, lb, x);
-      few-rows = omega (arith, lr, y);
+      variables-are = lb ∙ x .value;
+      variables-in = x .known;
+      rows-counted = lr ∙ y .value ∙ ap (natAt s) z;
+      rows-number = subst (Between 0 mostRows s) z (y .known);
       bounds-are = rw lb (b .value ∙ ap (eachAt boundsAt 2 v s) (x .next));
       bounds-in = λ i h. rw (← (x .next)) (b .known .each i (omega (arith, lb, h)));
       rows-are = r .are ∙ ap (map (rowAt s)) q;
@@ -81,9 +87,9 @@ good-by s {v} {a} {n} {c} {from} {bs = bs} {rs = rs} e₁ e₂ e₃ e₄ =
 
 pub good-model : (s : List ℤ) {m : Model} {n : ℕ} {vs : List ℤ} → readModel 0 s ≡ got m n vs → Good s m
 good-model s {m} {n} e =
-    let (v, a, e₁, q₁) = bind-at (count-back 4 5 1 64) s 0 _ e in
+    let (v, a, e₁, q₁) = bind-at (count-back 4 5 1 mostVariables) s 0 _ e in
     let (bs, k, e₂, q₂) = bind-at (times-back bounds-back v) s a _ q₁ in
-    let (c, f, e₃, q₃) = bind-at (count-back 4 5 0 64) s k _ q₂ in
+    let (c, f, e₃, q₃) = bind-at (count-back 4 5 0 mostRows) s k _ q₂ in
     let (rs, o, us, e₄, q₄) = bind-got (times c (row v) f (drop f s)) _ q₃ in
     subst (Good s) (end-got (record { bounds = bs; rows = rs }) m o n us q₄) (good-by s e₁ e₂ e₃ e₄)
 
@@ -103,45 +109,18 @@ module _ (s : List ℤ) {m : Model} (g : Good s m) where
   pub starts-length : length (modelStarts s) ≡ length (m .rows)
   starts-length = sym (ap length (g .rows-are) ∙ length-map (modelStarts s) (rowAt s))
 
+  pub few-rows : length (m .rows) ≤ mostRows
+  few-rows = omega (arith, g .rows-counted, g .rows-number .upto)
+
   -- entry r of a table of starts, of which the first were set
-  pub start-of : (l : List ℕ) → 64 ≤ length l → (r : ℕ) → r < length (m .rows) → getD (sets l 0 (modelStarts s)) r 0 ≡ getD (modelStarts s) r 0
-  start-of l h r k = get-sets l (modelStarts s) r (omega (arith, starts-length, g .few-rows)) (omega (arith, starts-length))
+  pub start-of : (l : List ℕ) → mostRows ≤ length l → (r : ℕ) → r < length (m .rows) → getD (sets l 0 (modelStarts s)) r 0 ≡ getD (modelStarts s) r 0
+  start-of l h r k = get-sets l (modelStarts s) r (omega (arith, starts-length, few-rows)) (omega (arith, starts-length))
 
   pub row-at-start : (d : Row) (r : ℕ) → r < length (m .rows) → getD (m .rows) r d ≡ rowAt s (getD (modelStarts s) r 0)
   row-at-start d r k = rw (g .rows-are) (getD-map (rowAt s) (modelStarts s) d r (omega (arith, starts-length)))
 
   pub row-in : (r : ℕ) → r < length (m .rows) → RowIn (length (m .bounds)) s (getD (modelStarts s) r 0)
   row-in r k = each-at 0 r (omega (arith, starts-length)) (g .rows-in)
-
--- ---- from what the answer tells
-pub record Read (s : List ℤ) (v c : ℕ) : Type 0 where
-  pub model : Model
-  pub position : ℕ
-  pub rest : List ℤ
-  pub is : readModel 0 s ≡ got model position rest
-  pub variables : length (model .bounds) ≡ v
-  pub rows : length (model .rows) ≡ c
-
-pub said-good : (s : List ℤ) {v c : ℕ} → good v c ≡ saysModel (readModel 0 s) → Read s v c
-said-good s {v} {c} e = go (readModel 0 s) refl e
-  where
-    go : (g : Got Model) → readModel 0 s ≡ g → good v c ≡ saysModel g → Read s v c
-    go (got m n vs) q e = record { model = m; position = n; rest = vs; is = q; variables = cc; rows = cc }
-    go (refused num p) q e = let z : _≡_ {A = ℕ} 0 1 = cc in absurd (omega arith)
-
--- row r of such a model is found through a table of starts
-pub row-found : (s : List ℤ) (l : List ℕ) {v c : ℕ} (h : Read s v c) → 64 ≤ length l → (d : Row) (r : ℕ) → r < c → (getD (h .model .rows) r d ≡ rowAt s (getD (sets l 0 (modelStarts s)) r 0)) × RowIn v s (getD (sets l 0 (modelStarts s)) r 0)
-row-found s l {v} {c} h e d r k =
-    let g = good-model s (h .is) in
-    let m : r < length (h .model .rows) = omega (arith, k, h .rows) in
-    (rw (start-of s g l e r m) (row-at-start s g d r m), rw (start-of s g l e r m) (subst (λ n. RowIn n s (getD (modelStarts s) r 0)) (h .variables) (row-in s g r m)))
-
-pub said-shut : (s : List ℤ) {num p : ℕ} → shut num p ≡ saysModel (readModel 0 s) → readModel 0 s ≡ refused num p
-said-shut s {num} {p} e = go (readModel 0 s) refl e
-  where
-    go : (g : Got Model) → readModel 0 s ≡ g → shut num p ≡ saysModel g → g ≡ refused num p
-    go (got m n vs) q e = let z : _≡_ {A = ℕ} 0 1 = cc in absurd (omega arith)
-    go (refused c i) q e = cc
 
 -- a refusal names a number from 4 to 7 and a position of the table or its length
 refused-by : (s : List ℤ) {num p : ℕ} → Fair 4 ModelWrong (λ m n. KnownModel m) 0 s (refused num p) → (4 ≤ num) × (num ≤ 7) × (p ≤ length s)

@@ -3,7 +3,6 @@ pub mod Back
 pub mod Fresh
 pub mod Starts
 pub mod Stages
-pub mod Told
 pub mod Only
 pub mod Laws
 pub mod RowWords

@@ -9,6 +9,7 @@ use lib.ListN.{length, getD, take, drop}
 use lib.Seq.{drop-cons}
 use lib.Signed.{_≤ℤ_}
 use Rattle.words.specs.Int.{zz}
+use Rattle.meaning.specs.Limits.{mostParts}
 use Rattle.meaning.specs.Model.{termWords, variableWords, activityWords, rowWords}
 use Rattle.reading.specs.At.{At, natAt, eachAt, length-each, Between}
 use Rattle.reading.specs.Back.{is-pos}
@@ -29,7 +30,7 @@ rowSize s p = kindSize (natAt s p) (natAt s (p + 1))
 -- both numbers that decide it
 pub record RowBegins (s : List ℤ) (p : ℕ) : Type 0 where
   pub kind : Between 1 4 s p
-  pub count : Between 1 16 s (p + 1)
+  pub count : Between 1 mostParts s (p + 1)
 
 module _ (s : List ℤ) where
   take-next : (k p : ℕ) → p < length s → take (suc k) (drop p s) ≡ getD s p (pos 0) ∷ take k (drop (p + 1) s)

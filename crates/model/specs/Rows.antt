@@ -4,6 +4,7 @@ use mathlib.Core.List.{List, []}
 use lib.IntN.{ℤ, pos, natAbs}
 use lib.ListN.{length, getD}
 use lib.Signed.{_≤ℤ_}
+use Rattle.meaning.specs.Limits.{mostParts, mostCoefficient, mostDuration, mostUsage}
 use Rattle.meaning.specs.Model.{Bounds, Term, Activity, Row, linear, allDifferent, cumulative, circuit}
 use Rattle.reading.specs.At.{At, intAt, natAt, eachAt, Names}
 
@@ -34,11 +35,11 @@ pub record Counted (low : ℕ) (s : List ℤ) (p : ℕ) : Type 0 where
   pub inside : p < length s
   pub signless : pos 0 ≤ℤ getD s p (pos 0)
   pub from : low ≤ natAt s p
-  pub upto : natAt s p ≤ 16
+  pub upto : natAt s p ≤ mostParts
 
 pub record TermsIn (v : ℕ) (s : List ℤ) (p n : ℕ) : Type 0 where
   pub fits : p + n * 2 ≤ length s
-  pub small : (i : ℕ) → i < n → natAbs (getD s (p + i * 2) (pos 0)) ≤ 1000000
+  pub small : (i : ℕ) → i < n → natAbs (getD s (p + i * 2) (pos 0)) ≤ mostCoefficient
   pub named : (i : ℕ) → i < n → Names v s (p + i * 2 + 1)
 
 pub record VariablesIn (v : ℕ) (s : List ℤ) (p n : ℕ) : Type 0 where
@@ -48,14 +49,14 @@ pub record VariablesIn (v : ℕ) (s : List ℤ) (p n : ℕ) : Type 0 where
 pub record ActivitiesIn (v : ℕ) (s : List ℤ) (p n : ℕ) : Type 0 where
   pub fits : p + n * 3 ≤ length s
   pub named : (i : ℕ) → i < n → Names v s (p + i * 3)
-  pub lasting : (i : ℕ) → i < n → (pos 1 ≤ℤ getD s (p + i * 3 + 1) (pos 0)) × (getD s (p + i * 3 + 1) (pos 0) ≤ℤ pos 10000)
-  pub uses : (i : ℕ) → i < n → (pos 0 ≤ℤ getD s (p + i * 3 + 2) (pos 0)) × (getD s (p + i * 3 + 2) (pos 0) ≤ℤ pos 1000000)
+  pub lasting : (i : ℕ) → i < n → (pos 1 ≤ℤ getD s (p + i * 3 + 1) (pos 0)) × (getD s (p + i * 3 + 1) (pos 0) ≤ℤ pos mostDuration)
+  pub uses : (i : ℕ) → i < n → (pos 0 ≤ℤ getD s (p + i * 3 + 2) (pos 0)) × (getD s (p + i * 3 + 2) (pos 0) ≤ℤ pos mostUsage)
 
 -- the words after a row's kind k, which begin at p
 pub data KindIn (v : ℕ) (s : List ℤ) (p : ℕ) : ℕ → Type 0 where
   linear-in : Counted 1 s p → p + 1 < length s → TermsIn v s (p + 2) (natAt s p) → KindIn v s p 1
   all-different-in : Counted 2 s p → VariablesIn v s (p + 1) (natAt s p) → KindIn v s p 2
-  cumulative-in : Counted 1 s p → p + 1 < length s → (pos 0 ≤ℤ getD s (p + 1) (pos 0)) × (getD s (p + 1) (pos 0) ≤ℤ pos 1000000) → ActivitiesIn v s (p + 2) (natAt s p) → KindIn v s p 3
+  cumulative-in : Counted 1 s p → p + 1 < length s → (pos 0 ≤ℤ getD s (p + 1) (pos 0)) × (getD s (p + 1) (pos 0) ≤ℤ pos mostUsage) → ActivitiesIn v s (p + 2) (natAt s p) → KindIn v s p 3
   circuit-in : Counted 2 s p → VariablesIn v s (p + 1) (natAt s p) → KindIn v s p 4
 
 pub record RowIn (v : ℕ) (s : List ℤ) (p : ℕ) : Type 0 where

@@ -8,6 +8,7 @@ use native.Mathlib.Omega.{arith}
 use lib.IntN.{ℤ}
 use lib.ListN.{set, drop}
 use lib.Seq.{sets}
+use Rattle.meaning.specs.Limits.{mostVariables, mostRows}
 use Rattle.meaning.specs.Read.{Got, got, refused, times}
 use Rattle.reading.specs.Reading.{skim, skim-got, skim-refused}
 use Rattle.meaning.specs.Model.{number, boundsPair, row}
@@ -23,9 +24,9 @@ rowStarts v (suc c) at ws = at ∷ startsOn (row v at ws) (λ r n vs. rowStarts 
 
 unfoldable pub modelStarts : List ℤ → List ℕ
 modelStarts s =
-    startsOn (number 1 64 0 s) (λ v at ws.
+    startsOn (number 1 mostVariables 0 s) (λ v at ws.
     startsOn (times v boundsPair at ws) (λ bs at ws.
-    startsOn (number 0 64 at ws) (λ c at ws. rowStarts v c at ws)))
+    startsOn (number 0 mostRows at ws) (λ c at ws. rowStarts v c at ws)))
 
 -- ---- a loop over c rows: what is left to note after i of them
 module _ (v : ℕ) (s : List ℤ) (c : ℕ) where

@@ -9,9 +9,9 @@ use lib.Signed.{_≤ℤ_, leZ}
 use lib.ListN.{length, getD, drop}
 use Rattle.words.specs.Int.{zz, abs-is, one-side}
 use Rattle.words.specs.ListFacts.{and-true, le-of}
-use Rattle.meaning.specs.Read.{Got, got, Reader, bindGot, _>>=_, give, refuse, within, word, count, below, times}
+use Rattle.meaning.specs.Read.{Got, got, Reader, bindGot, _>>=_, give, refuse, neg, within, word, count, below, times}
 use Rattle.reading.specs.At.{At, intAt, natAt, eachAt, Names, Between, Each}
-use Rattle.reading.specs.Reading.{skim, skim-got, bind-got, worded, counted, none-got}
+use Rattle.reading.specs.Reading.{skim, skim-got, bind-got, worded, number-by, none-got}
 
 -- what is known of the words at a position
 abbrev pub Known : Type 1
@@ -47,29 +47,20 @@ word-back early outside lo hi = record { back = λ s at e. let h = worded early 
 between : (lo hi : ℕ) (s : List ℤ) (p x : ℕ) → p < length s → getD s p (pos 0) ≡ pos x → lo ≤ x → x ≤ hi → Between lo hi s p
 between lo hi s p x i e l h = record { inside = i; signless = omega (arith, zz, e); from = omega (arith, ap natAbs e); upto = omega (arith, ap natAbs e) }
 
-pub count-back : (early outside lo hi : ℕ) → Back (count early outside lo hi) natAt one (Between lo hi)
-count-back early outside lo hi = record { back = λ s at {a = x} e. let h = counted early outside lo hi at s e in record { value = sym (ap natAbs (h .stands)); next = h .next; rest = h .rest; forward = omega arith; fits = λ l. omega arith; known = between lo hi s at x (h .inside) (h .stands) (h .low) (h .high) } }
-
 -- the ranges as orders
 pub ranged-orders : (lo hi w : ℤ) → within lo hi w ≡ true → (lo ≤ℤ w) × (w ≤ℤ hi)
 ranged-orders lo hi w e = let h = and-true (leZ lo w) (leZ w hi) e in (le-of lo w (h .0), le-of w hi (h .1))
 
-pub ranged-size : (k : ℕ) (w : ℤ) → within (negsuc k) (pos (suc k)) w ≡ true → natAbs w ≤ suc k
-ranged-size k w e = let h = ranged-orders (negsuc k) (pos (suc k)) w e in omega (arith, zz, abs-is w, one-side w, h .0, h .1)
+pub ranged-size : (n : ℕ) → 1 ≤ n → (w : ℤ) → within (neg n) (pos n) w ≡ true → natAbs w ≤ n
+ranged-size zero l w e = absurd (omega arith)
+ranged-size (suc k) l w e = let h = ranged-orders (negsuc k) (pos (suc k)) w e in omega (arith, zz, abs-is w, one-side w, h .0, h .1)
 
 pub between-orders : {lo hi : ℕ} {s : List ℤ} {p : ℕ} → Between lo hi s p → (pos lo ≤ℤ intAt s p) × (intAt s p ≤ℤ pos hi)
 between-orders {s = s} {p} h = (omega (arith, zz, h .signless, h .from, abs-is (intAt s p), one-side (intAt s p)), omega (arith, zz, h .upto, abs-is (intAt s p), one-side (intAt s p)))
 
-pub below-back : (early outside n : ℕ) → Back (below early outside n) natAt one (Names n)
-below-back early outside zero = record { back = λ s at e. let (w, m, us, p, q) = bind-got (word early outside (pos 1) (pos 0) at (drop at s)) _ e in absurd (none-got early outside at s p) }
-below-back early outside (suc n) = said-as (count-back early outside 0 n) (λ s p h. refl) (λ s p h. refl) (λ s p h. record { inside = h .inside; signless = h .signless; known = omega (arith, h .upto) })
-
 -- the word that such a number was read from
 pub is-pos : (w : ℤ) → pos 0 ≤ℤ w → w ≡ pos (natAbs w)
 is-pos w h = omega (arith, zz, h, abs-is w, one-side w)
-
-pub below-stands : (early outside n : ℕ) (s : List ℤ) (at : ℕ) {x m : ℕ} {vs : List ℤ} → below early outside n at (drop at s) ≡ got x m vs → getD s at (pos 0) ≡ pos x
-below-stands early outside n s at e = let b = below-back early outside n .back s at e in is-pos (getD s at (pos 0)) (b .known .signless) ∙ ap pos (sym (b .value))
 
 abbrev pub Anything : Known
 Anything s p = Unit {0}
@@ -90,6 +81,21 @@ module _ {A B : Type 0} (f : At A) (z : At ℕ) (P : Known) (g : A → Reader B)
 pub bind-back : {A B : Type 0} {r : Reader A} {f : At A} {z : At ℕ} {P : Known} {g : A → Reader B} {h : A → At B} {y : A → At ℕ} {Q : A → Known} → Back r f z P → ((a : A) → Back (g a) (h a) (y a) (Q a))
     → Back (r >>= g) (λ s p. h (f s p) s (z s p)) (λ s p. y (f s p) s (z s p)) (λ s p. P s p × Q (f s p) s (z s p))
 bind-back {r} {f} {z} {P} {g} c k = record { back = λ s at e. let (a, m, us, p, q) = bind-got (r at (drop at s)) g e in bind-step f z P g k s at (c .back s at p) q }
+
+-- ---- numbers
+pub count-back : (early outside lo hi : ℕ) → Back (count early outside lo hi) natAt one (Between lo hi)
+count-back early outside lo hi =
+    said-as (bind-back (word-back early outside (pos lo) (pos hi)) (λ w. give-back (natAbs w)))
+    (λ s p h. refl)
+    (λ s p h. refl)
+    (λ s p h. let n = number-by lo hi (intAt s p) (h .0 .1) in between lo hi s p (natAt s p) (h .0 .0) (n .2) (n .0) (n .1))
+
+pub below-back : (early outside n : ℕ) → Back (below early outside n) natAt one (Names n)
+below-back early outside zero = record { back = λ s at e. let (w, m, us, p, q) = bind-got (word early outside (pos 1) (pos 0) at (drop at s)) _ e in absurd (none-got early outside at s p) }
+below-back early outside (suc n) = said-as (count-back early outside 0 n) (λ s p h. refl) (λ s p h. refl) (λ s p h. record { inside = h .inside; signless = h .signless; known = omega (arith, h .upto) })
+
+pub below-stands : (early outside n : ℕ) (s : List ℤ) (at : ℕ) {x m : ℕ} {vs : List ℤ} → below early outside n at (drop at s) ≡ got x m vs → getD s at (pos 0) ≡ pos x
+below-stands early outside n s at e = let b = below-back early outside n .back s at e in is-pos (getD s at (pos 0)) (b .known .signless) ∙ ap pos (sym (b .value))
 
 -- what was read first, and what then, of the words left in the table
 bind-at-by : {A B : Type 0} (s : List ℤ) (g : A → Reader B) {x : Got A} {a : A} {m n : ℕ} {us vs : List ℤ} {b : B} → us ≡ drop m s → x ≡ got a m us → g a m us ≡ got b n vs → (a : A) × (m : ℕ) × (x ≡ got a m (drop m s)) × (g a m (drop m s) ≡ got b n vs)

@@ -3,3 +3,4 @@ pub mod Told
 pub mod Only
 pub mod Reading
 pub mod Back
+pub mod Over

@@ -6,13 +6,13 @@ use mathlib.Core.Bool.{Bool, true, false, _&&_}
 use mathlib.Core.List.{List, [], _∷_}
 use native.Mathlib.Numerals.{add-one}
 use native.Mathlib.Omega.{arith}
-use lib.IntN.{ℤ, pos, negsuc, natAbs}
+use lib.IntN.{ℤ, pos, negsuc, natAbs, _-ℤ_}
 use lib.Signed.{_≤ℤ_, leZ}
 use lib.ListN.{length, getD, drop, drop-of-length-le, length-drop}
 use lib.Seq.{drop-cons, getD-drop, drop-drop}
 use borrow.Author.Tests.{leb-true}
-use Rattle.words.specs.Int.{zz}
-use Rattle.meaning.specs.Read.{Got, got, refused, Reader, bindGot, give, within, word, count, below, times}
+use Rattle.words.specs.Int.{zz, diff}
+use Rattle.meaning.specs.Read.{Got, got, refused, Reader, bindGot, give, neg, within, word, count, below, times}
 
 -- ---- a word of a table
 module _ (early outside : ℕ) (lo hi : ℤ) (s : List ℤ) (at : ℕ) where
@@ -63,15 +63,6 @@ pub bind-got : {A B : Type 0} (g : Got A) (f : A → Reader B) {b : B} {n : ℕ}
 bind-got (got a m us) f e = (a, m, us, refl, e)
 bind-got (refused num p) f e = let z : _≡_ {A = ℕ} 0 1 = cc in absurd (omega arith)
 
--- the same of a number
-pub record Counted (s : List ℤ) (lo hi at x n : ℕ) (vs : List ℤ) : Type 0 where
-  pub inside : at < length s
-  pub stands : getD s at (pos 0) ≡ pos x
-  pub next : n ≡ at + 1
-  pub rest : vs ≡ drop n s
-  pub low : lo ≤ x
-  pub high : x ≤ hi
-
 both : (a b : Bool) → (a && b) ≡ true → (a ≡ true) × (b ≡ true)
 both true b e = (refl, e)
 both false b e = let z : _≡_ {A = ℕ} 0 1 = cc in absurd (omega arith)
@@ -81,24 +72,10 @@ pub number-by : (lo hi : ℕ) (w : ℤ) → within (pos lo) (pos hi) w ≡ true 
 number-by lo hi (pos k) e = let h = both (leZ (pos lo) (pos k)) (leZ (pos k) (pos hi)) e in (leb-true lo k (h .0), leb-true k hi (h .1), refl)
 number-by lo hi (negsuc k) e = let z : _≡_ {A = ℕ} 0 1 = cc in absurd (omega arith)
 
-pub got-number : (early outside lo hi at : ℕ) (s : List ℤ) {x : ℤ} {n : ℕ} {vs : List ℤ} → word early outside (pos lo) (pos hi) at (drop at s) ≡ got x n vs → pos 0 ≤ℤ x
-got-number early outside lo hi at s {x} p = rw (number-by lo hi x (worded early outside (pos lo) (pos hi) at s p .range) .2) (omega (arith, zz))
-
-pub counted : (early outside lo hi at : ℕ) (s : List ℤ) {x n : ℕ} {vs : List ℤ} → count early outside lo hi at (drop at s) ≡ got x n vs → Counted s lo hi at x n vs
-counted early outside lo hi at s {x} {n} {vs} p =
-    let (w, m, us, e, f) = bind-got (word early outside (pos lo) (pos hi) at (drop at s)) _ p in
-    let h = worded early outside (pos lo) (pos hi) at s e in
-    let b = number-by lo hi w (h .range) in
-    let q : natAbs w ≡ x = cc in
-    let r : m ≡ n = cc in
-    record {
-      inside = h .inside;
-      stands = h .stands ∙ b .2 ∙ ap pos q;
-      next = omega (arith, h .next, r);
-      rest = cc;
-      low = omega (arith, b .0, q);
-      high = omega (arith, b .1, q);
-    }
+-- ---- a word from -n to n
+pub minus : (n : ℕ) → 1 ≤ n → pos 0 -ℤ pos n ≡ neg n
+minus zero h = absurd (omega arith)
+minus (suc n) h = omega (arith, zz, diff (pos 0) (pos (suc n)))
 
 -- ---- a number below n
 -- with nothing below 0 no word is in range

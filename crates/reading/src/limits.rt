@@ -15,9 +15,9 @@ pub const MOST_PREMISES: usize = 16;
 
 pub const MOST_HINTS: usize = 64;
 
-pub const MOST_VALUE: i32 = 100000;
+pub const MOST_VALUE: usize = 100000;
 
-pub const MOST_COEFFICIENT: i32 = 1000000;
+pub const MOST_COEFFICIENT: usize = 1000000;
 
 pub const MOST_DURATION: usize = 10000;
 // A usage, and a capacity.

@@ -1,12 +1,15 @@
 // Writing out what a table's reading answers.
-use model::ModelAnswer;
+use reading::Past;
+use reading::limits::MOST_LOG_WORDS;
+use reading::limits::MOST_MODEL_WORDS;
+use reading::limits::MOST_ROWS;
+use reading::limits::MOST_VARIABLES;
 use steps::FactPlace;
 use steps::Step;
-use steps::StepAnswer;
 ghost use mathlib.Core.Path.{_≡_};
 ghost use Prim.Native.Nat.{_≤_};
 ghost use lib.ListN.{length};
-ghost use Rattle.reading_cases.specs.Cases.{RowsBegin};
+ghost use Rattle.reading_cases.specs.Cases.{RowsBegin, GoodTable};
 
 pub fn text(s: &[u8]) {
     io::write_all(1, s);
@@ -22,12 +25,9 @@ fn wide(n: u32) -> usize
     n as usize
 }
 
-// A whole number of which document 01 allows the value.
+// A word whose negative is a word too.
 fn value(v: i32) {
-    if v < -100000 {
-        return;
-    }
-    if v > 100000 {
+    if v < -2147483647 {
         return;
     }
     if v < 0 {
@@ -75,44 +75,39 @@ fn row_sizes(s: &[i32], starts: &[u32], rows: usize)
     }
 }
 
-fn no_model(a: ModelAnswer) {
-    match a {
-        ModelAnswer::Good {
-            variables: _,
-            rows: _,
-        } => text(b"good"),
-        ModelAnswer::Refused(c, p) => refusal(c, p),
-    }
-}
-
-fn counts(variables: usize, rows: usize) {
-    number(variables);
+// How much a good model holds, the starts of its rows and their lengths.
+fn good(s: &[i32], starts: &[u32])
+    requires { ⌜ GoodTable (now s) (now starts) ⌝ }
+{
+    let rows = model::rows_of(s);
+    number(model::variables_of(s));
     text(b" variables, ");
     number(rows);
     text(b" rows;");
+    row_sizes(s, starts, rows);
 }
 
 // A model's answer; the starts of the rows that were begun, with their lengths where the model is good.
 fn told(s: &[i32], starts: &mut [u32]) {
-    if s.len() > 4096 {
+    if s.len() > MOST_MODEL_WORDS {
         return;
     }
-    if starts.len() < 64 {
+    if starts.len() < MOST_ROWS {
         return;
     }
     let a = model::read_model(s, &mut *starts);
-    let ModelAnswer::Good { variables, rows } = a else {
-        no_model(a);
-        text(b";");
-        noted(starts);
-        return;
-    };
-    counts(variables, rows);
-    row_sizes(s, starts, rows);
+    match a {
+        Past::Next(_) => good(s, starts),
+        Past::Refused(c, p) => {
+            refusal(c, p);
+            text(b";");
+            noted(starts);
+        }
+    }
 }
 
 pub fn table(s: &[i32]) {
-    let mut starts = [9999u32; 64];
+    let mut starts = [9999u32; MOST_ROWS];
     told(s, &mut starts);
 }
 
@@ -157,49 +152,44 @@ fn parts(t: Step) {
     }
 }
 
-fn no_step(a: StepAnswer) {
-    match a {
-        StepAnswer::Is(_, _) => text(b"read"),
-        StepAnswer::Refused(c, p) => refusal(c, p),
-    }
-}
-
 // Step k, which begins at a word, and the position after it.
 pub fn step(s: &[i32], at: usize, k: usize, v: usize, rows: usize) {
-    if k > 16384 {
+    if k > MOST_LOG_WORDS {
         return;
     }
-    if v > 64 {
+    if v > MOST_VARIABLES {
         return;
     }
-    if rows > 64 {
+    if rows > MOST_ROWS {
         return;
     }
     let a = steps::read_step(s, at, k, v, rows);
-    let StepAnswer::Is(t, next) = a else {
-        no_step(a);
-        return;
-    };
-    parts(t);
-    text(b"; ");
-    number(next);
+    match a {
+        Past::Next(next) => {
+            parts(steps::step_at(s, at));
+            text(b"; ");
+            number(next);
+        }
+        Past::Refused(c, p) => refusal(c, p),
+    }
 }
 
 // The place of the fact that step k, an inference, makes: read again.
 pub fn again(s: &[i32], at: usize, k: usize, v: usize, rows: usize) {
-    if k > 16384 {
+    if k > MOST_LOG_WORDS {
         return;
     }
-    if v > 64 {
+    if v > MOST_VARIABLES {
         return;
     }
-    if rows > 64 {
+    if rows > MOST_ROWS {
         return;
     }
     let a = steps::read_step(s, at, k, v, rows);
-    let StepAnswer::Is(t, _) = a else {
+    let Past::Next(_) = a else {
         return;
     };
+    let t = steps::step_at(s, at);
     let Step::Inference(row, _) = t else {
         return;
     };

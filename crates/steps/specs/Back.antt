@@ -1,28 +1,32 @@
 -- The log's parts read back from a position: atoms, facts and steps, and what is known of their words.
 use Prim.Native.Nat.{ℕ, zero, suc, _+_, _*_, _≤_}
-use mathlib.Core.Path.{_≡_, refl}
-use mathlib.Core.List.{List}
+use mathlib.Core.Path.{_≡_, refl, sym, _∙_}
+use mathlib.Core.List.{List, [], _∷_}
 use mathlib.Core.Option.{Option, none, some}
 use native.Mathlib.Omega.{arith}
 use lib.IntN.{ℤ, pos}
-use lib.ListN.{length}
-use Rattle.meaning.specs.Read.{neg}
-use Rattle.meaning.specs.Log.{Atom, Step, inference, deduction, noAssignment, neverBelow, atom, consequentOf, fact, stepOfKind, step}
+use lib.ListN.{length, drop}
+use Rattle.meaning.specs.Limits.{mostValue, mostPremises, mostHints}
+use Rattle.meaning.specs.Read.{neg, times}
+use Rattle.meaning.specs.Log.{Atom, Step, atom, consequentOf, fact, stepOfKind, step}
 use Rattle.reading.specs.At.{At, intAt, natAt, eachAt, Names, Between, Each}
-use Rattle.reading.specs.Reading.{skim, skim-give}
+use Rattle.reading.specs.Reading.{skim-give}
+use Rattle.reading.specs.Told.{Skims}
+use Rattle.reading.specs.declared.Past.{Past}
 use Rattle.reading.specs.Back.{Known, Back, Ranged, said-as, one, word-back, count-back, below-back, give-back, refuse-back, bind-back, times-back, ranged-size, between-orders}
 use Rattle.steps.specs.Facts.{atomAt, thenAt, premisesEnd, factAt, factNext, factStart, AtomIn, FactFrom}
+use Rattle.steps.specs.Told.{stepOf, placedKind, placed}
 
 -- ---- an atom
-atom-in : (v : ℕ) (s : List ℤ) (p : ℕ) → Names v s p → Between 1 4 s (p + 1) → Ranged (neg 100000) (pos 100000) s (p + 2) → AtomIn v s p
-atom-in v s p x r a = record { fits = omega (arith, a .0); named = x; relation = between-orders r; value = ranged-size 99999 (intAt s (p + 2)) (a .1) }
+atom-in : (v : ℕ) (s : List ℤ) (p : ℕ) → Names v s p → Between 1 4 s (p + 1) → Ranged (neg mostValue) (pos mostValue) s (p + 2) → AtomIn v s p
+atom-in v s p x r a = record { fits = omega (arith, a .0); named = x; relation = between-orders r; value = ranged-size mostValue (omega arith) (intAt s (p + 2)) (a .1) }
 
 two : (p : ℕ) → p + 1 + 1 ≡ p + 2
 two p = omega arith
 
 pub atom-back : (v : ℕ) → Back (atom v) atomAt (λ s p. p + 3) (AtomIn v)
 atom-back v =
-    said-as (bind-back (below-back 11 12 v) (λ x. bind-back (count-back 11 12 1 4) (λ r. bind-back (word-back 11 12 (neg 100000) (pos 100000)) (λ a. give-back _))))
+    said-as (bind-back (below-back 11 12 v) (λ x. bind-back (count-back 11 12 1 4) (λ r. bind-back (word-back 11 12 (neg mostValue) (pos mostValue)) (λ a. give-back _))))
     (λ s p h. rw (two p))
     (λ s p h. omega arith)
     (λ s p h. atom-in v s p (h .0) (h .1 .0) (rw (two p) at (h .1 .1 .0)))
@@ -40,9 +44,11 @@ pub then-back : (v q : ℕ) → Back (consequentOf v q) (thenAt q) (thenNext q) 
 then-back v zero = give-back {A = Option Atom} none
 then-back v (suc q) = said-as (bind-back (atom-back v) (λ a. give-back (some a))) (λ s p h. refl) (λ s p h. refl) (λ s p h. h .0)
 
-pub some-consequent : (v q at : ℕ) (ws : List ℤ) → (q ≡ 0 → ⊥) → skim (consequentOf v q at ws) ≡ skim (atom v at ws)
-some-consequent v zero at ws h = absurd (h refl)
-some-consequent v (suc q) at ws h = skim-give (atom v at ws) some
+-- none or one in turn
+pub then-turns : (v q : ℕ) {s : List ℤ} {at : ℕ} {p : Past} → q ≤ 1 → Skims (times q (atom v)) s at p → Skims (consequentOf v q) s at p
+then-turns v zero l h = record { told = h .told }
+then-turns v (suc zero) {s} {at} l h = record { told = h .told ∙ skim-give (atom v at (drop at s)) (λ a. a ∷ []) ∙ sym (skim-give (atom v at (drop at s)) some) }
+then-turns v (suc (suc q)) l h = absurd (omega arith)
 
 then-next : (q p : ℕ) (s : List ℤ) → q ≤ 1 → thenNext q s p ≡ p + q * 3
 then-next zero p s h = omega arith
@@ -58,7 +64,7 @@ then-one : (v q p : ℕ) (s : List ℤ) → ThenIn v q s p → q ≡ 1 → AtomI
 then-one v zero p s t e = absurd (omega arith)
 then-one v (suc q) p s t e = t
 
-fact-from : (v : ℕ) (s : List ℤ) (p : ℕ) → Between 0 16 s p → Each (AtomIn v) 3 (natAt s p) s (p + 1) → Between 0 1 s (premisesEnd s p) → ThenIn v (natAt s (premisesEnd s p)) s (premisesEnd s p + 1) → FactFrom v s p
+fact-from : (v : ℕ) (s : List ℤ) (p : ℕ) → Between 0 mostPremises s p → Each (AtomIn v) 3 (natAt s p) s (p + 1) → Between 0 1 s (premisesEnd s p) → ThenIn v (natAt s (premisesEnd s p)) s (premisesEnd s p + 1) → FactFrom v s p
 fact-from v s p n ps q c =
     record {
       begins = record { counts = n; ends = q };
@@ -73,30 +79,20 @@ fact-from v s p n ps q c =
 
 pub fact-back : (v : ℕ) → Back (fact v) factAt factNext (FactFrom v)
 fact-back v =
-    said-as (bind-back (count-back 11 12 0 16) (λ n. bind-back (times-back (atom-back v) n) (λ ps. bind-back (count-back 11 12 0 1) (λ q. bind-back (then-back v q) (λ c. give-back _)))))
+    said-as (bind-back (count-back 11 12 0 mostPremises) (λ n. bind-back (times-back (atom-back v) n) (λ ps. bind-back (count-back 11 12 0 1) (λ q. bind-back (then-back v q) (λ c. give-back _)))))
     (λ s p h. refl)
     (λ s p h. then-next (natAt s (premisesEnd s p)) (premisesEnd s p + 1) s (h .1 .1 .0 .upto))
     (λ s p h. fact-from v s p (h .0) (h .1 .0) (h .1 .1 .0) (h .1 .1 .1 .0))
 
 -- ---- the last of the four kinds
-pub last-kind : (v c k n at : ℕ) (ws : List ℤ) → 1 ≤ n → (n ≡ 1 → ⊥) → (n ≡ 2 → ⊥) → (n ≡ 3 → ⊥) → stepOfKind v c k n at ws ≡ stepOfKind v 0 k 4 at ws
-last-kind v c k zero at ws h p q r = absurd (omega arith)
-last-kind v c k (suc zero) at ws h p q r = absurd (p refl)
-last-kind v c k (suc (suc zero)) at ws h p q r = absurd (q refl)
-last-kind v c k (suc (suc (suc zero))) at ws h p q r = absurd (r refl)
-last-kind v c k (suc (suc (suc (suc n)))) at ws h p q r = refl
+pub last-kind : (v c k n : ℕ) {s : List ℤ} {at : ℕ} {p : Past} → 1 ≤ n → (n ≡ 1 → ⊥) → (n ≡ 2 → ⊥) → (n ≡ 3 → ⊥) → Skims (stepOfKind v 0 k 4) s at p → Skims (stepOfKind v c k n) s at p
+last-kind v c k zero l p q r h = absurd (omega arith)
+last-kind v c k (suc zero) l p q r h = absurd (p refl)
+last-kind v c k (suc (suc zero)) l p q r h = absurd (q refl)
+last-kind v c k (suc (suc (suc zero))) l p q r h = absurd (r refl)
+last-kind v c k (suc (suc (suc (suc n)))) l p q r h = record { told = h .told }
 
 -- ---- a step: its kind and what comes after it
-abbrev pub hintsAt : At (List ℕ)
-hintsAt s p = eachAt natAt 1 (natAt s p) s (p + 1)
-
-abbrev pub kindAt : ℕ → At Step
-kindAt zero s p = noAssignment 0
-kindAt (suc zero) s p = inference (natAt s p) (factAt s (p + 1))
-kindAt (suc (suc zero)) s p = deduction (factAt s p) (hintsAt s (factNext s p))
-kindAt (suc (suc (suc zero))) s p = noAssignment (natAt s p)
-kindAt (suc (suc (suc (suc n)))) s p = neverBelow (natAt s p) (intAt s (p + 1)) (natAt s (p + 2))
-
 abbrev pub kindNext : ℕ → At ℕ
 kindNext zero s p = p
 kindNext (suc zero) s p = factNext s (p + 1)
@@ -104,8 +100,11 @@ kindNext (suc (suc zero)) s p = factNext s p + 1 + natAt s (factNext s p)
 kindNext (suc (suc (suc zero))) s p = p + 1
 kindNext (suc (suc (suc (suc n)))) s p = p + 3
 
+abbrev kindAt : ℕ → At Step
+kindAt n s p = stepOf s (placedKind n s p)
+
 abbrev pub stepAt : At Step
-stepAt s p = kindAt (natAt s p) s (p + 1)
+stepAt s p = stepOf s (placed s p)
 
 abbrev pub stepNext : At ℕ
 stepNext s p = kindNext (natAt s p) s (p + 1)
@@ -114,9 +113,9 @@ stepNext s p = kindNext (natAt s p) s (p + 1)
 abbrev pub KindIn : ℕ → ℕ → ℕ → ℕ → Known
 KindIn v c k zero s p = ⊥
 KindIn v c k (suc zero) s p = Names c s p × FactFrom v s (p + 1)
-KindIn v c k (suc (suc zero)) s p = FactFrom v s p × Between 0 64 s (factNext s p) × Each (Names k) 1 (natAt s (factNext s p)) s (factNext s p + 1)
+KindIn v c k (suc (suc zero)) s p = FactFrom v s p × Between 0 mostHints s (factNext s p) × Each (Names k) 1 (natAt s (factNext s p)) s (factNext s p + 1)
 KindIn v c k (suc (suc (suc zero))) s p = Names k s p
-KindIn v c k (suc (suc (suc (suc n)))) s p = Names v s p × Ranged (neg 100000) (pos 100000) s (p + 1) × Names k s (p + 2)
+KindIn v c k (suc (suc (suc (suc n)))) s p = Names v s p × Ranged (neg mostValue) (pos mostValue) s (p + 1) × Names k s (p + 2)
 
 pub record StepIn (v c k : ℕ) (s : List ℤ) (p : ℕ) : Type 0 where
   pub kind : Between 1 4 s p
@@ -126,13 +125,13 @@ kind-back : (v c k n : ℕ) → Back (stepOfKind v c k n) (kindAt n) (kindNext n
 kind-back v c k zero = refuse-back 12 _ _ _
 kind-back v c k (suc zero) = said-as (bind-back (below-back 11 12 c) (λ r. bind-back (fact-back v) (λ f. give-back _))) (λ s p h. refl) (λ s p h. refl) (λ s p h. (h .0, h .1 .0))
 kind-back v c k (suc (suc zero)) =
-    said-as (bind-back (fact-back v) (λ f. bind-back (count-back 11 12 0 64) (λ h. bind-back (times-back (below-back 11 12 k) h) (λ hs. give-back _))))
+    said-as (bind-back (fact-back v) (λ f. bind-back (count-back 11 12 0 mostHints) (λ h. bind-back (times-back (below-back 11 12 k) h) (λ hs. give-back _))))
     (λ s p h. refl)
     (λ s p h. omega arith)
     (λ s p h. (h .0, h .1 .0, h .1 .1 .0))
 kind-back v c k (suc (suc (suc zero))) = said-as (bind-back (below-back 11 12 k) (λ n. give-back _)) (λ s p h. refl) (λ s p h. refl) (λ s p h. h .0)
 kind-back v c k (suc (suc (suc (suc n)))) =
-    said-as (bind-back (below-back 11 12 v) (λ x. bind-back (word-back 11 12 (neg 100000) (pos 100000)) (λ a. bind-back (below-back 11 12 k) (λ i. give-back _))))
+    said-as (bind-back (below-back 11 12 v) (λ x. bind-back (word-back 11 12 (neg mostValue) (pos mostValue)) (λ a. bind-back (below-back 11 12 k) (λ i. give-back _))))
     (λ s p h. rw (two p))
     (λ s p h. omega arith)
     (λ s p h. (h .0, h .1 .0, rw (two p) at (h .1 .1 .0)))

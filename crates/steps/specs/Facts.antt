@@ -6,6 +6,7 @@ use mathlib.Core.Option.{Option, none, some}
 use lib.IntN.{ℤ, pos, natAbs}
 use lib.ListN.{length, getD}
 use lib.Signed.{_≤ℤ_}
+use Rattle.meaning.specs.Limits.{mostValue, mostPremises}
 use Rattle.meaning.specs.Log.{Atom, Fact, relationOf}
 use Rattle.reading.specs.At.{At, intAt, natAt, eachAt, Names, Between}
 use Rattle.steps.specs.declared.FactPlace.{FactPlace}
@@ -44,10 +45,10 @@ pub record AtomIn (v : ℕ) (s : List ℤ) (p : ℕ) : Type 0 where
   pub fits : p + 3 ≤ length s
   pub named : Names v s p
   pub relation : (pos 1 ≤ℤ getD s (p + 1) (pos 0)) × (getD s (p + 1) (pos 0) ≤ℤ pos 4)
-  pub value : natAbs (getD s (p + 2) (pos 0)) ≤ 100000
+  pub value : natAbs (getD s (p + 2) (pos 0)) ≤ mostValue
 
 pub record FactIn (v : ℕ) (s : List ℤ) (f : FactPlace) : Type 0 where
-  pub few : f .count ≤ 16
+  pub few : f .count ≤ mostPremises
   pub one : f .then ≤ 1
   pub fits : (f .premises + f .count * 3 ≤ length s) × (f .consequent + f .then * 3 ≤ length s)
   pub premise : (i : ℕ) → i < f .count → AtomIn v s (f .premises + i * 3)
@@ -55,7 +56,7 @@ pub record FactIn (v : ℕ) (s : List ℤ) (f : FactPlace) : Type 0 where
 
 -- both numbers of the fact that begins at p are in range
 pub record FactBegins (s : List ℤ) (p : ℕ) : Type 0 where
-  pub counts : Between 0 16 s p
+  pub counts : Between 0 mostPremises s p
   pub ends : Between 0 1 s (premisesEnd s p)
 
 -- and so is everything that they announce

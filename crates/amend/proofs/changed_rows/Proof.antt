@@ -16,17 +16,17 @@ use Rattle.amend.proofs.changed_rows.Statement.{statement}
 use Rattle.amend.proofs.changed_rows.Tie as tie
 
 abbrev Inv-loop : tie.InvT-loop
-Inv-loop old olds new starts variables rows set₀ k₀ set k = (k ≤ rows) × (set ≡ packed (take k (changes (modelOf old .rows) (modelOf new .rows))))
+Inv-loop old olds new starts rows set₀ k₀ set k = (k ≤ rows) × (set ≡ packed (take k (changes (modelOf old .rows) (modelOf new .rows))))
 
 abbrev μ-loop : tie.MeasureT-loop
-μ-loop old olds new starts variables rows set₀ k₀ set k = rows - k
+μ-loop old olds new starts rows set₀ k₀ set k = rows - k
 
 same-row-requires : tie.Need-same-row-requires Inv-loop μ-loop
 same-row-requires c κs =
     let l = c .before .before .before in
     let s = l .before .before .before in
     let a = s .args in
-    (stands (now (a .old)) (s .pre .0 .row-in (l .loop .k) (omega arith)), stands (now (a .new)) (s .pre .1 .row-in (l .loop .k) (omega arith)))
+    (stands (now (a .old)) (s .pre .before .row-in (l .loop .k) (omega arith)), stands (now (a .new)) (s .pre .after .row-in (l .loop .k) (omega arith)))
 
 loop-again : tie.Need-loop-again Inv-loop μ-loop
 loop-again c =
@@ -36,11 +36,11 @@ loop-again c =
     let a = s .args in
     let k = l .loop .k in
     let flags = changes (modelOf (now (a .old)) .rows) (modelOf (now (a .new)) .rows) in
-    let inside : k < length flags = omega (arith, flags-length (s .pre .0) (s .pre .1)) in
-    let flag : getD flags k false ≡ not (r .same-row .result) = flag-is (s .pre .0) (s .pre .1) k (omega arith) ∙ ap not (sym (r .same-row .ensures)) in (
+    let inside : k < length flags = omega (arith, flags-length (s .pre .before) (s .pre .after)) in
+    let flag : getD flags k false ≡ not (r .same-row .result) = flag-is (s .pre .before) (s .pre .after) k (omega arith) ∙ ap not (sym (r .same-row .ensures)) in (
       omega arith,
       ⊎-elim
-          (λ w. w .1 ∙ ap (λ m. bitOr m ((1 * 2 ^ k) % 2 ^ 64)) (l .loop .inv .1) ∙ row-put flags k inside (omega (arith, s .pre .0 .few-rows)) (flag ∙ w .0 .taken))
+          (λ w. w .1 ∙ ap (λ m. bitOr m ((1 * 2 ^ k) % 2 ^ 64)) (l .loop .inv .1) ∙ row-put flags k inside (omega (arith, s .pre .before .few-rows)) (flag ∙ w .0 .taken))
           (λ w. w .1 ∙ l .loop .inv .1 ∙ row-left flags k inside (flag ∙ w .0 .left))
           (c .if1 .came),
     )
@@ -51,7 +51,7 @@ returns c =
     let s = l .before .before .before in
     let a = s .args in
     let flags = changes (modelOf (now (a .old)) .rows) (modelOf (now (a .new)) .rows) in
-    l .loop .inv .1 ∙ ap packed (take-all (l .loop .k) flags (omega (arith, flags-length (s .pre .0) (s .pre .1))))
+    l .loop .inv .1 ∙ ap packed (take-all (l .loop .k) flags (omega (arith, flags-length (s .pre .before) (s .pre .after))))
 
 pub changed-rows-spec : {M : Type 1} → statement M
 changed-rows-spec =

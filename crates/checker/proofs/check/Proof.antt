@@ -2,8 +2,8 @@ use mathlib.Core.Path.{_≡_, sym, ap, _∙_}
 use native.Mathlib.Omega.{arith}
 use denote.Ref.{now}
 use lib.ListN.{length}
-use Rattle.checker.specs.Entry.{ShutAt, OpenTo}
-use Rattle.checker.specs.Checks.{checks-shut, checks-open}
+use Rattle.checker.specs.Entry.{RefusedAt, OpenTo}
+use Rattle.checker.specs.Checks.{checks-refused, checks-open}
 use borrow.Author.Needs.{needs}
 use Rattle.checker.proofs.check.Statement.{statement}
 use Rattle.checker.proofs.check.Tie as tie
@@ -13,7 +13,7 @@ returns c =
     let d = c .before in
     let n = d .before .before .before in
     let a = n .before .before .before .args in
-    rw (c .shut .ensures, d .enum-told .given .1) (checks-shut (now (a .model)) (now (a .log)) (length (now (a .places))) (now (a .places)) _ _ (rw (d .enum-told .given .1) at (n .enter .ensures)))
+    rw (c .refusal .ensures, d .enum-told .given .1) (checks-refused (now (a .model)) (now (a .log)) (length (now (a .places))) (now (a .places)) _ _ (rw (d .enum-told .given .1) at (n .enter .ensures)))
 
 -- the way to the walk is open
 way : (c : tie.After-known-told) → let a = c .before .before .before .before .before .before .before .args in OpenTo (now (a .model)) (now (a .log)) (length (now (a .places))) (c .before .before .before .before .enter .last .1 .1 .1 .0) (c .before .e .given .0 .0) (c .before .e .given .0 .1 .0)
@@ -22,7 +22,7 @@ way c = rw (c .before .e .given .1) at (c .before .before .before .before .enter
 walk-requires : tie.Need-walk-requires
 walk-requires c κs =
     let w = way (c .before .before .before) in
-    (w .planned, w .log-fits, w .places-suffice, omega (arith, w .planned .few-variables))
+    (w .planned, w .log-fits, omega (arith, w .log-fits, w .places-suffice), omega (arith, w .planned .few-variables))
 
 returns-2 : tie.Need-returns-2
 returns-2 c =

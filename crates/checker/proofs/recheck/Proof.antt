@@ -3,7 +3,7 @@ use native.Mathlib.Omega.{arith}
 use denote.Ref.{now}
 use lib.ListN.{length}
 use Rattle.checker.specs.Entry.{OpenTo}
-use Rattle.checker.specs.Checks.{rechecks-shut, rechecks-open}
+use Rattle.checker.specs.Checks.{rechecks-refused, rechecks-open}
 use borrow.Author.Needs.{needs}
 use Rattle.checker.proofs.recheck.Statement.{statement}
 use Rattle.checker.proofs.recheck.Tie as tie
@@ -13,7 +13,7 @@ returns c =
     let d = c .before in
     let n = d .before .before .before in
     let a = n .before .before .before .args in
-    rw (c .shut .ensures, d .enum-told .given .1) (rechecks-shut (now (a .old)) (now (a .new)) (now (a .log)) (length (now (a .places))) (now (a .places)) _ _ (rw (d .enum-told .given .1) at (n .enter .ensures)))
+    rw (c .refusal .ensures, d .enum-told .given .1) (rechecks-refused (now (a .old)) (now (a .new)) (now (a .log)) (length (now (a .places))) (now (a .places)) _ _ (rw (d .enum-told .given .1) at (n .enter .ensures)))
 
 -- the way to the walk is open
 way : (c : tie.After-known-told) → let a = c .before .before .before .before .before .before .before .args in OpenTo (now (a .new)) (now (a .log)) (length (now (a .places))) (c .before .before .before .before .enter .last .1 .1 .1 .0) (c .before .e .given .0 .0) (c .before .e .given .0 .1 .0)
@@ -25,10 +25,10 @@ compare-requires c κs = way (c .before) .planned
 walk-requires : tie.Need-walk-requires
 walk-requires c κs =
     let w = way (c .before .before .before .before .before) in
-    (w .planned, w .log-fits, w .places-suffice, omega (arith, w .planned .few-variables))
+    (w .planned, w .log-fits, omega (arith, w .log-fits, w .places-suffice), omega (arith, w .planned .few-variables))
 
-size-requires : tie.Need-size-requires
-size-requires c κs = way (c .before .before .before .before .before .before .before .before .before) .planned .few-rows
+changed-rows-requires : tie.Need-changed-rows-requires
+changed-rows-requires c κs = way (c .before .before .before .before .before .before .before .before .before) .planned .few-rows
 
 returns-2 : tie.Need-returns-2
 returns-2 c =
@@ -36,7 +36,7 @@ returns-2 c =
     let m = u .before .before .before .before in
     let k = m .before .before in
     let a = k .before .before .before .before .before .before .before .args in
-    rechecks-open (now (a .old)) (now (a .new)) (now (a .log)) (length (now (a .places))) (way k) (m .compare .result .whole) (m .compare .result .changed) _ (u .walk .result) _ _ (m .compare .ensures) (c .size .ensures) (u .walk .ensures)
+    rechecks-open (now (a .old)) (now (a .new)) (now (a .log)) (length (now (a .places))) (way k) (m .compare .result .whole) (m .compare .result .changed) _ (u .walk .result) _ _ (m .compare .ensures) (c .changed-rows .ensures) (u .walk .ensures)
 
 pub recheck-spec : {M : Type 1} → statement M
 recheck-spec =
@@ -53,6 +53,6 @@ recheck-spec =
     (λ c. search needs)
     (λ c. search needs)
     walk-requires
-    size-requires
+    changed-rows-requires
     (λ c. search needs)
     returns-2)

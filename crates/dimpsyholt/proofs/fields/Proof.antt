@@ -1,15 +1,16 @@
 -- `fields` meets its contract. Assumes nothing.
 use mathlib.Core.Path.{subst}
 use borrow.Author.Needs.{needs}
+use Rattle.meaning.specs.Limits.{mostVariables}
 use Rattle.checker.specs.Told.{NamesIn}
 use Rattle.dimpsyholt.proofs.fields.Statement.{statement}
 use Rattle.dimpsyholt.proofs.fields.Tie as tie
 
 reached-requires : tie.Need-reached-requires
-reached-requires c κs = subst (NamesIn 64) (c .before .answer2 .given .1) (c .before .before .before .pre)
+reached-requires c κs = subst (NamesIn mostVariables) (c .before .answer2 .given .1) (c .before .before .before .pre)
 
 reached-requires-2 : tie.Need-reached-requires-2
-reached-requires-2 c κs = subst (NamesIn 64) (c .before .answer3 .given .1) (c .before .before .before .pre)
+reached-requires-2 c κs = subst (NamesIn mostVariables) (c .before .answer3 .given .1) (c .before .before .before .pre)
 
 returns : tie.Need-returns
 returns c = rw (c .before .before .answer .given .1) (c .refused .ensures)

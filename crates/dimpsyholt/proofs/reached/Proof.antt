@@ -4,13 +4,14 @@ use mir.Syntax.{w32}
 use mir.Facts.{toZ-ofZ}
 use Rattle.words.specs.Int.{fit}
 use borrow.Author.Needs.{needs}
+use Rattle.meaning.specs.Limits.{mostVariables}
 use Rattle.checker.specs.Told.{ConclusionIn}
 use Rattle.dimpsyholt.proofs.reached.Statement.{statement}
 use Rattle.dimpsyholt.proofs.reached.Tie as tie
 
--- the variable that is named is below 64
+-- the variable that is named is one that there is
 cast-t8 : tie.Need-cast-t8
-cast-t8 c = let h = subst (ConclusionIn 64) (c .before .before .c .given .1) (c .before .before .before .before .pre) in search needs
+cast-t8 c = let h = subst (ConclusionIn mostVariables) (c .before .before .c .given .1) (c .before .before .before .before .pre) in search needs
 
 returns : tie.Need-returns
 returns c = rw (c .enum-told .given .1)

@@ -1,99 +1,70 @@
-use mathlib.Core.Path.{_≡_, sym, ap, _∙_}
+use mathlib.Core.Path.{_≡_, ap, sym, _∙_}
 use native.Mathlib.Omega.{arith}
 use denote.Ref.{now}
-use lib.ListN.{drop}
-use Rattle.meaning.specs.Read.{got, times}
-use Rattle.reading.specs.Reading.{skim, counted}
-use Rattle.meaning.specs.Model.{number, boundsPair}
-use Rattle.model.specs.Stages.{no-variables, no-bounds, no-rows, starts-are, bad-row, too-long, sound}
-use Rattle.reading.specs.Told.{toldNumber, toldPast}
+use lib.Seq.{sets}
+use Rattle.meaning.specs.Limits.{mostVariables, mostRows}
+use Rattle.reading.specs.Over.{is-number}
+use Rattle.model.specs.Starts.{modelStarts}
+use Rattle.model.specs.Stages.{Headed, no-variables, no-bounds, no-rows, headed, bad-row, too-long, sound}
 use borrow.Author.Needs.{needs}
 use Rattle.model.proofs.read_model.Statement.{statement}
 use Rattle.model.proofs.read_model.Tie as tie
 
--- what was read up to a place
-one : (c : tie.After-known-told) → let s = now (c .before .before .before .before .before .args .s) in let g = c .before .g .given .0 in number 1 64 0 s ≡ got (g .0) (g .1 .0) (drop (g .1 .0) s)
-one c = let r = c .before .before .before in sym (r .count .ensures) ∙ ap (toldNumber (now (r .before .before .args .s))) (c .before .g .given .1)
-
-two : (c : tie.After-known-told2) → let k = c .before .before .before .before in let s = now (k .before .before .before .before .before .args .s) in let g = k .before .g .given .0 in let n = c .before .b .given .0 .0 in skim (times (g .0) boundsPair (g .1 .0) (drop (g .1 .0) s)) ≡ got tt n (drop n s)
-two c = let r = c .before .before .before in sym (r .all-bounds .ensures) ∙ ap (toldPast (now (r .before .before .before .before .before .before .args .s))) (c .before .b .given .1)
-
-three : (c : tie.After-known-told3) → let k = c .before .before .before .before in let s = now (k .before .before .before .before .before .before .before .before .before .args .s) in let n = k .before .b .given .0 .0 in let h = c .before .h .given .0 in number 0 64 n (drop n s) ≡ got (h .0) (h .1 .0) (drop (h .1 .0) s)
-three c = let r = c .before .before .before in sym (r .count2 .ensures) ∙ ap (toldNumber (now (r .before .before .before .before .before .before .before .before .before .before .args .s))) (c .before .h .given .1)
-
 returns : tie.Need-returns
-returns c =
-    let r = c .before .before .before .before in
-    let s = now (r .before .before .args .s) in
-    let e = c .before .before .enum-told .given .1 in
-    let h = no-variables s (sym (r .count .ensures) ∙ ap (toldNumber s) e) in
-    (rw (c .no-model .ensures, c .before .no-count .ensures, e, h .0), rw (h .1))
+returns c = let h = no-variables (c .before .before .number .ensures) (c .enum-told .given .1) in (h .0, rw (h .1))
 
 returns-2 : tie.Need-returns-2
 returns-2 c =
-    let r = c .before .before .before in
-    let s = now (r .before .before .before .before .before .before .args .s) in
-    let e = c .before .enum-told2 .given .1 in
-    let h = no-bounds s (one (r .before)) (sym (r .all-bounds .ensures) ∙ ap (toldPast s) e) in
-    (rw (c .no-model2 .ensures, e, h .0), rw (h .1))
+    let n = c .before .before .before in
+    let k = n .before in
+    let h = no-bounds (k .before .before .before .number .ensures) (k .before .g .given .1) (n .number-at .ensures) (c .before .before .pairs .ensures) (c .enum-told2 .given .1) in
+    (h .0, rw (h .1))
 
 returns-3 : tie.Need-returns-3
 returns-3 c =
-    let r = c .before .before .before .before in
-    let k = r .before .before .before .before .before in
-    let s = now (k .before .before .before .before .before .args .s) in
-    let e = c .before .before .enum-told3 .given .1 in
-    let h = no-rows s (one k) (two (r .before)) (sym (r .count2 .ensures) ∙ ap (toldNumber s) e) in
-    (rw (c .no-model3 .ensures, c .before .no-count2 .ensures, e, h .0), rw (h .1))
+    let b = c .before .before .before in
+    let p = b .before .before .before in
+    let n = p .before in
+    let k = n .before in
+    let h = no-rows (k .before .before .before .number .ensures) (k .before .g .given .1) (n .number-at .ensures) (p .pairs .ensures) (b .before .b .given .1) (c .before .before .number2 .ensures) (c .enum-told3 .given .1) in
+    (h .0, rw (h .1))
 
-all-rows-requires : tie.Need-all-rows-requires
-all-rows-requires c κs =
-    let k3 = c .before in
-    let k2 = k3 .before .before .before .before in
-    let k1 = k2 .before .before .before .before in
-    let s = now (k1 .before .before .before .before .before .args .s) in
-    let f = counted 4 5 1 64 0 s (one k1) in
-    let h = counted 4 5 0 64 (k2 .before .b .given .0 .0) s (three k3) in
-    let p = k1 .before .before .before .before .before .pre in
-    (f .high, omega (arith, h, p), p .0, omega (arith, h))
+-- the rows begin
+head : (c : tie.After-number-at2) → let n = c .before .before .before .before .before .before .before .before .before in Headed (now (n .before .before .before .before .before .before .args .s)) (n .number-at .result) (c .number-at2 .result) (c .before .before .h .given .0 .0)
+head c =
+    let h = c .before in
+    let b = h .before .before .before .before in
+    let p = b .before .before .before in
+    let n = p .before in
+    let k = n .before in
+    headed (k .before .before .before .number .ensures) (k .before .g .given .1) (n .number-at .ensures) (p .pairs .ensures) (b .before .b .given .1) (h .before .before .before .number2 .ensures) (h .before .h .given .1) (c .number-at2 .ensures)
+
+rows-requires : tie.Need-rows-requires
+rows-requires c κs =
+    let h = head (c .before) in
+    let p = c .before .before .before .before .before .before .before .before .before .before .before .before .before .before .before .before .pre in
+    (omega (arith, h .few-variables), omega (arith, h .few-rows, p .1), p .0, h .inside)
+
+-- what was noted
+noted : (c : tie.After-rows) → let n = c .before .before in let s = n .before .before .before .before .before .before .before .before .before .before .before .before .before .before .before in c .rows .last .1 .1 .1 .1 .0 ≡ sets (now (s .args .starts)) 0 (modelStarts (now (s .args .s)))
+noted c = rw (head (c .before .before) .starts) (c .rows .ensures .1)
 
 returns-4 : tie.Need-returns-4
 returns-4 c =
-    let r = c .before .before .before .before .before in
-    let k3 = r .before .before in
-    let k2 = k3 .before .before .before .before in
-    let k1 = k2 .before .before .before .before in
-    let s = now (k1 .before .before .before .before .before .args .s) in
-    let e = c .before .enum-told4 .given .1 in
-    let q = sym (r .all-rows .ensures .0) ∙ ap (toldPast s) e in (
-      rw (c .no-model4 .ensures, e, bad-row s (one k1) (two k2) (three k3) q),
-      r .all-rows .ensures .1 ∙ rw (starts-are s (one k1) (two k2) (three k3)),
-    )
+    let r = c .before .before .before .before in
+    (bad-row (head (r .before .before)) (r .rows .ensures .0) (c .enum-told4 .given .1), noted r)
 
 returns-5 : tie.Need-returns-5
 returns-5 c =
-    let r = c .before .before .before .before .before .before in
-    let k3 = r .before .before in
-    let k2 = k3 .before .before .before .before in
-    let k1 = k2 .before .before .before .before in
-    let s = now (k1 .before .before .before .before .before .args .s) in
-    let q = sym (r .all-rows .ensures .0) ∙ ap (toldPast s) (c .before .before .p .given .1) in (
-      rw (too-long s (one k1) (two k2) (three k3) q (c .if1 .taken)),
-      r .all-rows .ensures .1 ∙ rw (starts-are s (one k1) (two k2) (three k3)),
-    )
+    let k = c .before in
+    let r = k .before .before .before .before .before in
+    (too-long (head (r .before .before)) (r .rows .ensures .0) (k .before .p .given .1) (c .if1 .taken), noted r)
 
 returns-6 : tie.Need-returns-6
 returns-6 c =
-    let r = c .before .before .before .before .before .before in
-    let k3 = r .before .before in
-    let k2 = k3 .before .before .before .before in
-    let k1 = k2 .before .before .before .before in
-    let s = now (k1 .before .before .before .before .before .args .s) in
-    let q = sym (r .all-rows .ensures .0) ∙ ap (toldPast s) (c .before .before .p .given .1) in
-    let good = sound s (one k1) (two k2) (three k3) q (c .if1 .left) in (
-      rw (good .is, good .variables, good .rows),
-      r .all-rows .ensures .1 ∙ rw (starts-are s (one k1) (two k2) (three k3)),
-    )
+    let k = c .before in
+    let r = k .before .before .before .before .before in
+    (sound (head (r .before .before)) (r .rows .ensures .0) (k .before .p .given .1) (c .if1 .left), noted r)
 
 pub read-model-spec : {M : Type 1} → statement M
 read-model-spec =
@@ -102,24 +73,20 @@ read-model-spec =
     (λ c κs. search needs)
     (λ c. search needs)
     (λ c. search needs)
-    (λ c κs. search needs)
-    (λ c κs. search needs)
     returns
+    (λ c κs. is-number 4 5 1 mostVariables (c .before .before .before .number .ensures) (c .before .g .given .1))
     (λ c κs. search needs)
     (λ c. search needs)
     (λ c. search needs)
-    (λ c κs. search needs)
     returns-2
     (λ c κs. search needs)
     (λ c. search needs)
     (λ c. search needs)
-    (λ c κs. search needs)
-    (λ c κs. search needs)
     returns-3
-    all-rows-requires
+    (λ c κs. is-number 4 5 0 mostRows (c .before .before .before .number2 .ensures) (c .before .h .given .1))
+    rows-requires
     (λ c. search needs)
     (λ c. search needs)
-    (λ c κs. search needs)
     (λ c. search needs)
     returns-4
     (λ c. search needs)

@@ -4,11 +4,12 @@ use native.Mathlib.Omega.{arith}
 use borrow.Author.Tests.{ltb-false}
 use denote.Ref.{now}
 use lib.ListN.{length}
+use Rattle.meaning.specs.Limits.{mostModelWords}
 use Rattle.meaning.specs.Read.{refused}
 use Rattle.meaning.specs.Model.{readModel}
 use Rattle.model.specs.Told.{toldModel}
 use Rattle.model.specs.Laws.{said-good, said-shut, refused-inside}
-use Rattle.checker.specs.Entry.{SizesFit, shut-by-size, sizes-fit, shut-by-model, open-so}
+use Rattle.checker.specs.Entry.{SizesFit, refused-by-size, sizes-fit, refused-by-model, open-so}
 use borrow.Author.Needs.{needs}
 use Rattle.checker.proofs.entry.enter.Statement.{statement}
 use Rattle.checker.proofs.entry.enter.Tie as tie
@@ -17,8 +18,8 @@ use Rattle.checker.proofs.entry.enter.Tie as tie
 fit : (c : tie.Else1) → let a = c .before .before .before .args in SizesFit (now (a .model)) (now (a .log)) (a .places)
 fit c = let a = c .before .before .before .args in sizes-fit (now (a .model)) (now (a .log)) (a .places) (omega (arith, c .before .size-fault .ensures, c .if1 .left))
 
-short : (c : tie.Else1) → length (now (c .before .before .before .args .model)) ≤ 4096
-short c = ltb-false 4096 _ (fit c .model-fits)
+short : (c : tie.Else1) → length (now (c .before .before .before .args .model)) ≤ mostModelWords
+short c = ltb-false mostModelWords _ (fit c .model-fits)
 
 -- the model is refused
 unread : (c : tie.After-enum-told) → let a = c .before .before .before .before .before .before .before .before .before .args in readModel 0 (now (a .model)) ≡ refused (c .enum-told .given .0 .0) (c .enum-told .given .0 .1 .0)
@@ -31,7 +32,7 @@ returns : tie.Need-returns
 returns c =
     let e = c .before .size-fault .ensures in
     let a = c .before .before .before .args in
-    rw e (shut-by-size (now (a .model)) (now (a .log)) (a .places) (λ z. omega (arith, e, c .if1 .taken)))
+    rw e (refused-by-size (now (a .model)) (now (a .log)) (a .places) (λ z. omega (arith, e, c .if1 .taken)))
 
 read-model-requires : tie.Need-read-model-requires
 read-model-requires c κs = (short (c .before), c .before .before .before .before .pre)
@@ -48,7 +49,7 @@ returns-2 c =
     let x = d .before .before .before .before .before .before in
     let a = x .before .before .before .args in
     let u = unread d in
-    rw (c .no-model .ensures, d .enum-told .given .1) (shut-by-model (now (a .model)) (now (a .log)) (a .places) (fit x) (refused-inside (now (a .model)) u .1) u)
+    rw (c .no-model .ensures, d .enum-told .given .1) (refused-by-model (now (a .model)) (now (a .log)) (a .places) (fit x) (refused-inside (now (a .model)) u .1) u)
 
 returns-3 : tie.Need-returns-3
 returns-3 c =
@@ -58,7 +59,7 @@ returns-3 c =
     let o = x .before .before .before in
     let a = o .args in
     let s = now (a .model) in
-    open-so s (now (a .log)) (a .places) (fit x) (now (a .starts)) _ _ _ (said-good s (ap toldModel (sym (m .m .given .1)) ∙ r .read-model .ensures .0)) (r .read-model .ensures .1) (o .pre)
+    open-so s (now (a .log)) (a .places) (fit x) (now (a .row-starts)) _ _ _ (said-good s (ap toldModel (sym (m .m .given .1)) ∙ r .read-model .ensures .0)) (r .read-model .ensures .1) (o .pre)
 
 pub enter-spec : {M : Type 1} → statement M
 enter-spec =

@@ -9,10 +9,10 @@ use borrow.Author.Needs.{needs}
 use Rattle.reading_cases.proofs.show.value.Statement.{statement}
 use Rattle.reading_cases.proofs.show.value.Tie as tie
 
--- a number below zero and no less than -100,000 has a negative that is a word
-below : (c : tie.After-text) → SFits w32 (pos 0 -ℤ toZ w32 (ofZ w32 (c .before .before .before .before .before .args .v))) × (pos 0 ≤ℤ (pos 0 -ℤ toZ w32 (ofZ w32 (c .before .before .before .before .before .args .v))))
+-- a number below zero that is not the least has a negative that is a word
+below : (c : tie.After-text) → SFits w32 (pos 0 -ℤ toZ w32 (ofZ w32 (c .before .before .before .before .args .v))) × (pos 0 ≤ℤ (pos 0 -ℤ toZ w32 (ofZ w32 (c .before .before .before .before .args .v))))
 below c =
-    let s = c .before .before .before .before .before in
+    let s = c .before .before .before .before in
     let v = toZ w32 (ofZ w32 (s .args .v)) in
     let f = s .fits .v in
     (omega (arith, zz, one-side v, diff (pos 0) v), omega (arith, zz, neg v))
@@ -24,7 +24,6 @@ pub value-spec : {M : Type 1} → statement M
 value-spec =
     tie.close
     (tie.spec
-    (λ c. search needs)
     (λ c. search needs)
     (λ c. search needs)
     (λ c κs. search needs)
