@@ -1,4 +1,4 @@
-//! Medians of rounds in which the subjects take turns.
+//! Rounds in which the subjects take turns.
 
 use crate::scenario::Scenario;
 use crate::subjects::Subject;
@@ -29,9 +29,10 @@ const DEAR_SECONDS: f64 = 0.5;
 
 /// What one call took.
 pub struct Times {
-    /// Seconds, for each subject.
+    /// The seconds of the quickest round, for each subject.
     pub seconds: Vec<f64>,
-    /// The first subject to each, round by round, so that what slows the machine slows both.
+    /// The first subject to each: the median over the rounds, since what slows the machine in one
+    /// slows both.
     pub ratios: Vec<f64>,
 }
 
@@ -71,7 +72,7 @@ pub fn measure(scenario: &Scenario, subjects: &[(&str, Subject)], effort: Effort
             .iter()
             .map(|other| ratio(&rounds[0], other))
             .collect(),
-        seconds: rounds.into_iter().map(median).collect(),
+        seconds: rounds.into_iter().map(least).collect(),
     }
 }
 
@@ -111,7 +112,11 @@ pub fn call(subject: Subject, scenario: &Scenario, places: &mut [u32]) -> Answer
     )
 }
 
-fn median(mut times: Vec<f64>) -> f64 {
-    times.sort_by(f64::total_cmp);
-    times[times.len() / 2]
+fn least(times: Vec<f64>) -> f64 {
+    times.into_iter().fold(f64::MAX, f64::min)
+}
+
+fn median(mut ratios: Vec<f64>) -> f64 {
+    ratios.sort_by(f64::total_cmp);
+    ratios[ratios.len() / 2]
 }

@@ -6,7 +6,7 @@ use crate::scenario::Scenario;
 use crate::{bare, everyday, holes, steps, subjects};
 
 pub fn print() {
-    println!("The library is {}.", held::LIBRARY);
+    println!("The library is {}.\n", held::LIBRARY);
     print_everyday();
     println!();
     steps::print_cost_of_a_step(&subjects::ALL);
@@ -15,23 +15,29 @@ pub fn print() {
 }
 
 fn print_everyday() {
-    println!();
     println!("| Case | Log words | Steps | Library | Fast | Reference | Library to fast | Library to reference |");
     println!("|---|---|---|---|---|---|---|---|");
     for scenario in everyday::all() {
         let times = measure(&scenario, &subjects::ALL, THOROUGH);
         println!(
-            "| {} | {} | {} | {} | {} | {} | {:.2} | {:.4} |",
+            "| {} | {} | {} | {} | {} | {} | {:.2} | {} |",
             scenario.name,
             scenario.log.len(),
             scenario.steps,
-            micros(times.seconds[0]),
-            micros(times.seconds[1]),
-            micros(times.seconds[2]),
+            duration(times.seconds[0]),
+            duration(times.seconds[1]),
+            duration(times.seconds[2]),
             times.ratios[1],
-            times.seconds[0] / times.seconds[2],
+            small(times.seconds[0] / times.seconds[2]),
         );
     }
+}
+
+fn small(ratio: f64) -> String {
+    if ratio < 0.001 {
+        return "below 0.001".to_string();
+    }
+    format!("{ratio:.3}")
 }
 
 fn print_adversarial() {
@@ -61,7 +67,7 @@ fn print_family(family: &Family) -> Worst {
         family.logs.len(),
         worst.ratio.0,
         worst.ratio.1,
-        micros(worst.seconds.0),
+        duration(worst.seconds.0),
         worst.seconds.1,
     );
     worst
@@ -102,13 +108,17 @@ impl Worst {
             self.ratio.0,
             self.family.0,
             self.ratio.1,
-            micros(self.seconds.0),
+            duration(self.seconds.0),
             self.family.1,
             self.seconds.1,
         )
     }
 }
 
-pub fn micros(seconds: f64) -> String {
-    format!("{:.1} us", seconds * 1e6)
+pub fn duration(seconds: f64) -> String {
+    match seconds {
+        s if s < 1e-3 => format!("{:.1} us", s * 1e6),
+        s if s < 1.0 => format!("{:.2} ms", s * 1e3),
+        s => format!("{s:.2} s"),
+    }
 }

@@ -5,7 +5,7 @@ mod draw;
 mod shape;
 
 use crate::measure::{call, measure, processor_seconds, THOROUGH};
-use crate::report::micros;
+use crate::report::duration;
 use crate::scenario::Scenario;
 use crate::subjects::{self, Subject};
 use generator::Random;
@@ -44,8 +44,8 @@ pub fn run(seconds: f64, seed: u64) {
                 "| {kind} | {sought} | {} | {} | {} | {} | {:.2} | {tried} |",
                 log.log.len(),
                 log.steps,
-                micros(times.seconds[0]),
-                micros(times.seconds[1]),
+                duration(times.seconds[0]),
+                duration(times.seconds[1]),
                 times.ratios[1],
             );
             keep(&format!("{kind}-{sought}"), &shape, &log);
