@@ -3,6 +3,7 @@
 //! Without arguments it prints every table of the performance document. `search SECONDS SEED` only
 //! looks for logs that cost more. `one NAME SUBJECT CALLS` only calls, for a profiler to watch.
 
+mod adversarial;
 mod bare;
 mod everyday;
 mod family;
