@@ -30,7 +30,7 @@ enum Aim {
 
 pub fn run(seconds: f64, seed: u64) {
     println!(
-        "| Steps | Sought | Log words | Steps | Library | Fast | Library to fast | Logs tried |"
+        "| Repeated step | Sought | Log words | Steps | Library | Fast | Library to fast | Logs tried |"
     );
     println!("|---|---|---|---|---|---|---|---|");
     let climbs = KINDS.len() * 2;
