@@ -1,7 +1,7 @@
 //! Steps of the fewest words, so that the log holds the most of them.
 
 use crate::family::Family;
-use crate::scenario::{filled, Scenario, FALSEHOOD};
+use crate::scenario::{filled, many, Scenario, FALSEHOOD};
 use tables::limits::{DURATION, VALUE};
 use tables::{Fact, Model, Row, Step};
 
@@ -41,7 +41,7 @@ fn bare(name: &str, mut bounds: Vec<(i32, i32)>, row: Row, variables: usize) -> 
         row: 0,
         fact: Fact::default(),
     };
-    let name = format!("{variables} variables, {name}");
+    let name = format!("{}, {name}", many(variables, "variable"));
     filled(&name, model, &[], step, usize::MAX)
 }
 
@@ -59,7 +59,7 @@ fn deductions(variables: usize) -> Scenario {
         fact: Fact::default(),
         hints: vec![FALSEHOOD],
     };
-    let name = format!("{variables} variables, one hint");
+    let name = format!("{}, one hint", many(variables, "variable"));
     filled(&name, model, &[], step, usize::MAX)
 }
 
@@ -97,7 +97,7 @@ fn blockers(variables: usize) -> [Scenario; 2] {
         bounds[last].1 -= 1;
         let activities: Vec<(usize, i32, i32)> =
             (0..bounds.len()).map(|k| (k, DURATION, 1)).collect();
-        let name = format!("8 blockers, {movers} movers");
+        let name = format!("8 blockers, {}", many(movers, "mover"));
         bare(&name, bounds, Row::cumulative(1, &activities), variables)
     })
 }

@@ -1,7 +1,7 @@
 //! Logs against the arithmetic of sets: deductions whose hints take one value after the other.
 
 use crate::family::Family;
-use crate::scenario::{filled, Scenario, FALSEHOOD};
+use crate::scenario::{filled, many, Scenario, FALSEHOOD};
 use generator::Random;
 use tables::{at_least, not_equal, Atom, Fact, Model, Row, Step};
 
@@ -112,8 +112,10 @@ impl Shape {
             rows: vec![Row::linear(-1, &[(1, 0)])],
         };
         let name = format!(
-            "{} variables, {} holes, {} hints",
-            self.variables, self.holes, self.hints
+            "{}, {}, {}",
+            many(self.variables, "variable"),
+            many(self.holes, "hole"),
+            many(self.hints, "hint")
         );
         filled(&name, model, &facts, deduction, usize::MAX)
     }

@@ -66,3 +66,9 @@ pub fn add_false_row(model: &mut Model) -> usize {
 fn length(steps: &[Step]) -> usize {
     log_words(steps).len()
 }
+
+/// "1 variable", "8 variables".
+pub fn many(count: usize, what: &str) -> String {
+    let plural = if count == 1 { "" } else { "s" };
+    format!("{count} {what}{plural}")
+}
