@@ -106,10 +106,8 @@ fn one_step(
         model,
         row_starts,
         task.variables,
-        task.rows,
         log,
         passed,
-        k,
         step,
         cells,
     );

@@ -7,13 +7,18 @@ use native.Mathlib.Omega.{arith}
 use lib.IntN.{ℤ}
 use lib.ListN.{length}
 use Rattle.words.specs.Lists.{isEmpty}
-use Rattle.domain.specs.Box.{variables, Formed, Room, values, opposite, shifted, narrowed, loaded}
+use Rattle.meaning.specs.Limits.{mostPremises, mostHints}
+use Rattle.domain.specs.Box.{holePlace, variables, Formed, Room, values, opposite, shifted, narrowed, loaded}
 use Rattle.domain.specs.Box.Narrow.{narrowed-variables, narrowed-formed, narrowed-room, room-one}
 use Rattle.domain.specs.Box.Load.{loaded-formed, loaded-variables, loaded-room}
 use Rattle.reading.specs.At.{natAt, intAt}
 use Rattle.steps.specs.Facts.{AtomIn}
 use Rattle.steps.specs.declared.FactPlace.{FactPlace}
 use Rattle.judging.specs.InTurn.{inTurn, fromAll}
+
+-- the cells that the box of a fact needs: for the bounds of v variables, for its premises and its consequent, and for as many hints as a deduction may have
+abbrev pub boxRoom : ℕ → ℕ
+boxRoom v = holePlace v (mostPremises + 1 + mostHints)
 
 -- n atoms from p on
 abbrev pub AtomsIn : ℕ → List ℤ → ℕ → ℕ → Type 0
@@ -85,7 +90,7 @@ module _ (log : List ℤ) where
       (boxed-narrowed cells (natAt log p) _ _ (let e : suc n + k ≡ suc (n + k) = omega arith in rw e at b) ((rw q at (a 0 (omega arith))) .named .known))
 
 -- the declared bounds, with a place for k holes
-pub boxed-loaded : (ws : List ℤ) (p v k : ℕ) (cells : List ℤ) → 2 * v + 2 * k + 2 ≤ length cells → k < 2147483648 → Boxed v k (loaded ws p v cells)
+pub boxed-loaded : (ws : List ℤ) (p v k : ℕ) (cells : List ℤ) → holePlace v k ≤ length cells → k < 2147483648 → Boxed v k (loaded ws p v cells)
 boxed-loaded ws p v k cells h l =
     let f : 2 * v + 2 ≤ length cells = omega arith in
     record { formed = loaded-formed ws p v cells f; counted = loaded-variables ws p v cells f; room = loaded-room ws p v cells f k h l }

@@ -16,13 +16,11 @@ use Rattle.reading.specs.At.{eachAt}
 use Rattle.steps.specs.Facts.{atomAt, thenAt, factOf}
 use Rattle.steps.specs.declared.FactPlace.{FactPlace}
 
--- the fact of step n, of the first k steps
-pub cited-is : (f : ℕ → Fact) (places : List ℕ) (k n : ℕ) → n < k → k ≤ length places → factAt (map f (take k places)) n ≡ f (getD places n 0)
-cited-is f [] zero n h l = absurd (omega arith)
-cited-is f [] (suc k) n h l = absurd (omega arith)
-cited-is f (p ∷ places) zero n h l = absurd (omega arith)
-cited-is f (p ∷ places) (suc k) zero h l = refl
-cited-is f (p ∷ places) (suc k) (suc n) h l = cited-is f places k n (omega arith) (omega arith)
+-- the fact of step n
+pub cited-is : (f : ℕ → Fact) (places : List ℕ) (n : ℕ) → n < length places → factAt (map f places) n ≡ f (getD places n 0)
+cited-is f [] n h = absurd (omega arith)
+cited-is f (p ∷ places) zero h = refl
+cited-is f (p ∷ places) (suc n) h = cited-is f places n (omega arith)
 
 module _ (log : List ℤ) (f : FactPlace) where
   no-premise : f .count ≡ 0 → factOf log f .premises ≡ []

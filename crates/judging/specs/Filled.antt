@@ -12,6 +12,7 @@ use lib.ListN.{length}
 use borrow.Author.Tests.{eqb-true}
 use Rattle.words.specs.Lists.{any, all, isEmpty}
 use Rattle.words.specs.ListFacts.{clash, same-test, or-cases, or-left, or-right, or-none, any-found, any-holds, in-at}
+use Rattle.meaning.specs.Limits.{mostPremises}
 use Rattle.meaning.specs.Model.{Bounds}
 use Rattle.meaning.specs.Log.{Atom}
 use Rattle.meaning.specs.Box.{metBy, declaredAt, left, anyEmpty, boxOf, addNegated, negated}
@@ -82,7 +83,7 @@ module _ (log : List ℤ) (bs : List Bounds) where
   holds-then (suc (suc q)) p k atoms cells l a h = absurd (omega arith)
 
   -- the box of a fact, from the declared bounds on
-  pub holds-filled : (f : FactPlace) (k : ℕ) (model cells : List ℤ) → FactIn (length bs) log f → Holds [] (suc (16 + k)) (loaded model 1 (length bs) cells)
+  pub holds-filled : (f : FactPlace) (k : ℕ) (model cells : List ℤ) → FactIn (length bs) log f → Holds [] (suc (mostPremises + k)) (loaded model 1 (length bs) cells)
       → Holds (boxOf (factOf log f)) k (filled model (length bs) log f cells)
   holds-filled f k model cells i h =
       let l = loaded model 1 (length bs) cells in

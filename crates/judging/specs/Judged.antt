@@ -7,6 +7,7 @@ use native.Mathlib.Omega.{arith}
 use lib.IntN.{ℤ}
 use lib.ListN.{length, getD}
 use Rattle.words.specs.Lists.{All}
+use Rattle.meaning.specs.Limits.{mostPremises, mostHints}
 use Rattle.meaning.specs.Model.{Bounds}
 use Rattle.meaning.specs.Log.{Atom, Fact}
 use Rattle.meaning.specs.Box.{left, anyEmpty, boxOf}
@@ -24,19 +25,34 @@ use Rattle.model.specs.Planned.{modelOf, Planned}
 use Rattle.rules.specs.Ready.{Ready}
 use Rattle.steps.specs.Facts.{FactIn, factOf}
 use Rattle.steps.specs.declared.FactPlace.{FactPlace}
-use Rattle.judging.specs.Boxes.{filled, boxEmpty, Boxed}
+use Rattle.judging.specs.Boxes.{boxRoom, filled, boxEmpty, Boxed}
 use Rattle.judging.specs.Filled.{Holds, holds-filled, box-empty-is}
 
--- the box of a fact, with a place for 64 more holes
-filled-box : (model log cells : List ℤ) (bs : List Bounds) (f : FactPlace) (v : ℕ) → length bs ≡ v → bs ≡ eachAt boundsAt 2 v model 1 → All KnownBounds bs → FactIn v log f → 2 * v + 2 * 81 + 2 ≤ length cells
-    → Holds log bs (boxOf (factOf log f)) 64 (filled model v log f cells)
+-- how many rows the model in a table has
+abbrev pub rowsOf : List ℤ → ℕ
+rowsOf model = length (modelOf model .rows)
+
+-- what the box of a fact asks of the model in its table: the bounds of v variables
+pub record Declared (model : List ℤ) (v : ℕ) : Type 0 where
+  pub variables : length (modelOf model .bounds) ≡ v
+  pub few : v ≤ 65536
+  pub fits : 1 + 2 * v ≤ length model
+  pub bounds : modelOf model .bounds ≡ eachAt boundsAt 2 v model 1
+  pub known : All KnownBounds (modelOf model .bounds)
+
+pub declared : {model : List ℤ} {starts : List ℕ} {v c : ℕ} → Planned model starts v c → Declared model v
+declared p = record { variables = p .variables; few = omega (arith, p .few-variables); fits = p .fits; bounds = p .bounds; known = p .known }
+
+-- the box of a fact, with a place for each hint
+filled-box : (model log cells : List ℤ) (bs : List Bounds) (f : FactPlace) (v : ℕ) → length bs ≡ v → bs ≡ eachAt boundsAt 2 v model 1 → All KnownBounds bs → FactIn v log f → boxRoom v ≤ length cells
+    → Holds log bs (boxOf (factOf log f)) mostHints (filled model v log f cells)
 filled-box model log cells bs f v e =
-    subst (λ n. bs ≡ eachAt boundsAt 2 n model 1 → All KnownBounds bs → FactIn n log f → 2 * n + 2 * 81 + 2 ≤ length cells → Holds log bs (boxOf (factOf log f)) 64 (filled model n log f cells)) e
+    subst (λ n. bs ≡ eachAt boundsAt 2 n model 1 → All KnownBounds bs → FactIn n log f → boxRoom n ≤ length cells → Holds log bs (boxOf (factOf log f)) mostHints (filled model n log f cells)) e
     (λ given known i room.
     let fits : 2 * length bs + 2 ≤ length cells = omega arith in
-    holds-filled log bs f 64 model cells i (record { agrees = agrees-loaded model 1 cells bs given known fits; room = loaded-room model 1 (length bs) cells fits (suc (16 + 64)) (omega arith) (omega arith) }))
+    holds-filled log bs f mostHints model cells i (record { agrees = agrees-loaded model 1 cells bs given known fits; room = loaded-room model 1 (length bs) cells fits (suc (mostPremises + mostHints)) (omega arith) (omega arith) }))
 
-module _ (model log cells : List ℤ) (starts : List ℕ) (v c : ℕ) (f : FactPlace) (plan : Planned model starts v c) (i : FactIn v log f) (room : 2 * v + 2 * 81 + 2 ≤ length cells) where
+module _ (model log cells : List ℤ) (v : ℕ) (f : FactPlace) (plan : Declared model v) (i : FactIn v log f) (room : boxRoom v ≤ length cells) where
   abbrev box : List Atom
   box = boxOf (factOf log f)
 
@@ -46,7 +62,7 @@ module _ (model log cells : List ℤ) (starts : List ℕ) (v c : ℕ) (f : FactP
   abbrev full : List ℤ
   full = filled model v log f cells
 
-  pub holds : Holds log bounds box 64 full
+  pub holds : Holds log bounds box mostHints full
   holds = filled-box model log cells bounds f v (plan .variables) (plan .bounds) (plan .known) i room
 
   pub full-formed : Formed full
@@ -56,10 +72,10 @@ module _ (model log cells : List ℤ) (starts : List ℕ) (v c : ℕ) (f : FactP
   full-variables = holds .agrees .counted ∙ plan .variables
 
   -- as many places as there are hints
-  pub full-holds : (many : ℕ) → many ≤ 64 → Holds log bounds box many full
+  pub full-holds : (many : ℕ) → many ≤ mostHints → Holds log bounds box many full
   full-holds many h = record { agrees = holds .agrees; room = record { fits = omega (arith, holds .room .fits); counted = omega (arith, holds .room .counted) } }
 
-  pub full-boxed : (many : ℕ) → many ≤ 64 → Boxed v many full
+  pub full-boxed : (many : ℕ) → many ≤ mostHints → Boxed v many full
   full-boxed many h = record { formed = full-formed; counted = full-variables; room = full-holds many h .room }
 
   pub full-empty : boxEmpty log f full ≡ anyEmpty bounds box (length bounds)
@@ -74,17 +90,17 @@ module _ (model log cells : List ℤ) (starts : List ℕ) (v c : ℕ) (f : FactP
       }
 
   -- ---- an inference that cites row r
-  module _ (r : ℕ) (known : r < c) where
+  module _ (r : ℕ) where
     abbrev Judged : Verdict → Type 0
     Judged w = w ≡ judgeInference bounds (judge.rowAt (modelOf model) r) (factOf log f)
 
     pub empty-so : boxEmpty log f full ≡ true → Judged (fails 20 0)
     empty-so e = sym (ap (λ b. inferred b (conflicts (factOf log f) (left bounds box) (judge.rowAt (modelOf model) r))) (sym full-empty ∙ e))
 
-    pub row-so : boxEmpty log f full ≡ false → (b : Bool) → b ≡ conflicts (factOf log f) (values full) (rowAt model (getD starts r 0)) → Judged (inferred false b)
-    row-so e b q =
+    pub row-so : boxEmpty log f full ≡ false → (p : ℕ) → judge.rowAt (modelOf model) r ≡ rowAt model p → (b : Bool) → b ≡ conflicts (factOf log f) (values full) (rowAt model p) → Judged (inferred false b)
+    row-so e p is b q =
         ap₂ inferred (sym (sym full-empty ∙ e))
-        (q ∙ ap₂ (λ (d : ℕ → List ℤ) x. conflicts (factOf log f) d x) (holds .agrees .same) (sym (plan .row-is r known)))
+        (q ∙ ap₂ (λ (d : ℕ → List ℤ) x. conflicts (factOf log f) d x) (holds .agrees .same) (sym is))
 
   -- ---- a deduction
   module _ (facts : ℕ → Fact) (hs : List ℕ) where

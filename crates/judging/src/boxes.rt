@@ -6,7 +6,8 @@ ghost use mathlib.Core.Path.{_≡_};
 ghost use Prim.Native.Nat.{_+_, _*_, _≤_, _<_};
 ghost use lib.ListN.{length};
 ghost use Rattle.words.specs.Lists.{all};
-ghost use Rattle.domain.specs.Box.{variables, Formed, Room, values, stands};
+ghost use Rattle.meaning.specs.Limits.{mostPremises};
+ghost use Rattle.domain.specs.Box.{holePlace, variables, Formed, Room, values, stands};
 ghost use Rattle.reading.specs.At.{natAt, intAt};
 ghost use Rattle.steps.specs.Facts.{AtomIn, FactIn};
 ghost use Rattle.judging.specs.Boxes.{AtomsIn, narrowedAt, narrowedEach, narrowedNot, narrowedThen, filled, emptyAt, emptyEach, emptyThen, boxEmpty};
@@ -57,7 +58,7 @@ fn narrow_then(log: &[i32], at: usize, then: usize, cells: &mut [i32])
 
 // The declared bounds of the model's variables, narrowed by the fact.
 pub fn fill(model: &[i32], v: usize, log: &[i32], fact: FactPlace, cells: &mut [i32])
-    requires { ⌜ (1 + 2 * v ≤ length (now model)) × (v ≤ 65536) × FactIn v (now log) fact × (2 * v + 2 * 17 + 2 ≤ length (now cells)) ⌝ }
+    requires { ⌜ (1 + 2 * v ≤ length (now model)) × (v ≤ 65536) × FactIn v (now log) fact × (holePlace v (mostPremises + 1) ≤ length (now cells)) ⌝ }
     ensures { λ r. ⌜ now (cells .exit) ≡ filled (now (model .entry)) v (now (log .entry)) fact (now (cells .entry)) ⌝ }
 {
     domain::load(model, 1, v, &mut *cells);

@@ -2,6 +2,7 @@
 use crate::Verdict;
 use crate::cited;
 use reading;
+use reading::refusals::FACT_DOES_NOT_FIT;
 use steps::FactPlace;
 use words::FactNo;
 use words::VarNo;
@@ -9,12 +10,12 @@ ghost use mathlib.Core.Path.{_≡_};
 ghost use mathlib.Core.List.{[], map};
 ghost use mathlib.Core.Option.{some};
 ghost use Prim.Native.Nat.{_<_};
-ghost use lib.ListN.{take};
+ghost use lib.ListN.{length, getD};
 ghost use Rattle.meaning.specs.Judge.{fits24, saysFalse, givesAtLeast, saysAtLeast};
 ghost use Rattle.meaning.specs.Check.{factAt};
-ghost use Rattle.steps.specs.Facts.{madeFact, factOf, atomAt, AtomIn, FactIn};
+ghost use Rattle.steps.specs.Facts.{madeFact, factOf, atomAt, AtomIn, FactIn, MadeBegins, MadeFrom};
 ghost use Rattle.judging.specs.Told.{toldVerdict};
-ghost use Rattle.judging.specs.Cited.{Cited};
+ghost use Rattle.judging.specs.Cited.{Some};
 
 fn verdict(fits: bool) -> Verdict
     ensures { λ r. ⌜ toldVerdict r ≡ fits24 fits ⌝ }
@@ -22,7 +23,7 @@ fn verdict(fits: bool) -> Verdict
     if fits {
         return Verdict::Passes;
     }
-    Verdict::Fails(24, 0)
+    Verdict::Fails(FACT_DOES_NOT_FIT, 0)
 }
 
 // Does the fact say "false" without any premise?
@@ -36,8 +37,8 @@ fn says_false(fact: FactPlace, log: &[i32]) -> bool
 }
 
 // Does the atom at a position say that x is at least some number not below `value`?
-fn is_at_least(log: &[i32], at: usize, v: usize, x: VarNo, value: i32) -> bool
-    requires { ⌜ AtomIn v (now log) at ⌝ }
+fn is_at_least(log: &[i32], at: usize, x: VarNo, value: i32) -> bool
+    requires { ⌜ Some (λ v. AtomIn v (now log) at) ⌝ }
     ensures { λ r. ⌜ r ≡ givesAtLeast (x .0) value [] (some (atomAt (now (log .entry)) at)) ⌝ }
 {
     let relation = reading::number_at(log, at + 1);
@@ -51,38 +52,30 @@ fn is_at_least(log: &[i32], at: usize, v: usize, x: VarNo, value: i32) -> bool
 }
 
 // Does it say, without any premise, that x is at least some number not below `value`?
-fn says_at_least(fact: FactPlace, log: &[i32], v: usize, x: VarNo, value: i32) -> bool
-    requires { ⌜ FactIn v (now log) fact ⌝ }
+fn says_at_least(fact: FactPlace, log: &[i32], x: VarNo, value: i32) -> bool
+    requires { ⌜ Some (λ v. FactIn v (now log) fact) ⌝ }
     ensures { λ r. ⌜ r ≡ saysAtLeast (x .0) value (factOf (now (log .entry)) fact) ⌝ }
 {
     if fact.count == 0 {
         if fact.then == 1 {
-            return is_at_least(log, fact.consequent, v, x, value);
+            return is_at_least(log, fact.consequent, x, value);
         }
     }
     false
 }
 
-pub fn no_assignment(log: &[i32], places: &[u32], v: usize, k: usize, n: FactNo) -> Verdict
-    requires { ⌜ Cited v (now log) (now places) k × (n .0 < k) ⌝ }
-    ensures { λ r. ⌜ toldVerdict r ≡ fits24 (saysFalse (factAt (map (madeFact (now (log .entry))) (take k (now (places .entry)))) (n .0))) ⌝ }
+pub fn no_assignment(log: &[i32], places: &[u32], n: FactNo) -> Verdict
+    requires { ⌜ (n .0 < length (now places)) × MadeBegins (now log) (getD (now places) (n .0) 0) ⌝ }
+    ensures { λ r. ⌜ toldVerdict r ≡ fits24 (saysFalse (factAt (map (madeFact (now (log .entry))) (now (places .entry))) (n .0))) ⌝ }
 {
-    let f = cited(log, places, v, k, n);
+    let f = cited(log, places, n);
     verdict(says_false(f, log))
 }
 
-pub fn never_below(
-    log: &[i32],
-    places: &[u32],
-    v: usize,
-    k: usize,
-    x: VarNo,
-    value: i32,
-    n: FactNo,
-) -> Verdict
-    requires { ⌜ Cited v (now log) (now places) k × (n .0 < k) ⌝ }
-    ensures { λ r. ⌜ toldVerdict r ≡ fits24 (saysAtLeast (x .0) value (factAt (map (madeFact (now (log .entry))) (take k (now (places .entry)))) (n .0))) ⌝ }
+pub fn never_below(log: &[i32], places: &[u32], x: VarNo, value: i32, n: FactNo) -> Verdict
+    requires { ⌜ (n .0 < length (now places)) × Some (λ v. MadeFrom v (now log) (getD (now places) (n .0) 0)) ⌝ }
+    ensures { λ r. ⌜ toldVerdict r ≡ fits24 (saysAtLeast (x .0) value (factAt (map (madeFact (now (log .entry))) (now (places .entry))) (n .0))) ⌝ }
 {
-    let f = cited(log, places, v, k, n);
-    verdict(says_at_least(f, log, v, x, value))
+    let f = cited(log, places, n);
+    verdict(says_at_least(f, log, x, value))
 }

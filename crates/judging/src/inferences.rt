@@ -2,6 +2,8 @@
 use crate::Verdict;
 use crate::boxes;
 use crate::occurrences;
+use reading::refusals::BOX_EMPTY;
+use reading::refusals::ROW_DOES_NOT_CONFLICT;
 use rules;
 use steps::FactPlace;
 use words::RowNo;
@@ -16,6 +18,8 @@ ghost use Rattle.model.specs.Rows.{RowIn, rowAt};
 ghost use Rattle.rules.specs.Ready.{Ready};
 ghost use Rattle.model.specs.Planned.{modelOf, Planned};
 ghost use Rattle.steps.specs.Facts.{FactIn, factOf};
+ghost use Rattle.judging.specs.Boxes.{boxRoom};
+ghost use Rattle.judging.specs.Judged.{rowsOf};
 ghost use Rattle.judging.specs.Told.{toldVerdict};
 
 // Does the row whose kind stands at a position conflict with the box of the fact? The marks have a bit for each of 256 variables.
@@ -32,23 +36,22 @@ pub fn inference(
     model: &[i32],
     starts: &[u32],
     v: usize,
-    rows: usize,
     r: RowNo,
     log: &[i32],
     fact: FactPlace,
     cells: &mut [i32],
 ) -> Verdict
-    requires { ⌜ Planned (now model) (now starts) v rows × (r .0 < rows) × FactIn v (now log) fact × (2 * v + 2 * 81 + 2 ≤ length (now cells)) ⌝ }
+    requires { ⌜ Planned (now model) (now starts) v (rowsOf (now model)) × (r .0 < rowsOf (now model)) × FactIn v (now log) fact × (boxRoom v ≤ length (now cells)) ⌝ }
     ensures { λ w. ⌜ toldVerdict w ≡ judgeInference (modelOf (now (model .entry)) .bounds) (judge.rowAt (modelOf (now (model .entry))) (r .0)) (factOf (now (log .entry)) fact) ⌝ }
 {
     boxes::fill(model, v, log, fact, &mut *cells);
     if boxes::is_box_empty(log, fact, &*cells) {
-        return Verdict::Fails(20, 0);
+        return Verdict::Fails(BOX_EMPTY, 0);
     }
     let i = r.0;
     let at = starts[i] as usize;
     if row_conflicts(model, at, log, fact, &*cells) {
         return Verdict::Passes;
     }
-    Verdict::Fails(21, 0)
+    Verdict::Fails(ROW_DOES_NOT_CONFLICT, 0)
 }

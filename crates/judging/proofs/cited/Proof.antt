@@ -7,7 +7,7 @@ cast-start : tie.Need-cast-start
 cast-start c = let o = c .before .before in record { fits = omega (arith, c .shared-slice-known2 .given (o .args .n .0)) }
 
 made-fact-at-requires : tie.Need-made-fact-at-requires
-made-fact-at-requires c κs = let o = c .before .before in o .pre .0 .made (o .args .n .0) (o .pre .1) .begins
+made-fact-at-requires c κs = c .before .before .pre .1
 
 pub cited-spec : {M : Type 1} → statement M
 cited-spec =

@@ -1,6 +1,7 @@
 use mir.Syntax.{w32}
 use mir.Facts.{toZ-ofZ}
 use Rattle.words.specs.Int.{fit}
+use Rattle.judging.specs.Judged.{declared}
 use borrow.Author.Needs.{needs}
 use Rattle.judging.proofs.judge.Statement.{statement}
 use Rattle.judging.proofs.judge.Tie as tie
@@ -17,20 +18,21 @@ deduction-requires c κs =
     let t = c .before .before in
     let p = t .before .before .before .before .pre in
     let i = rw (t .step2 .given .1) at (p .2) in
-    (p .0, p .1, i .0, i .1, p .3)
+    (declared (p .0), p .1, i .0, i .1, p .3)
 
 no-assignment-requires : tie.Need-no-assignment-requires
 no-assignment-requires c κs =
     let t = c .before in
     let p = t .before .before .before .before .pre in
-    (p .1, rw (t .step3 .given .1) at (p .2))
+    let h = rw (t .step3 .given .1) at (p .2) in
+    (h, p .1 .made _ h .begins)
 
 never-below-requires : tie.Need-never-below-requires
 never-below-requires c κs =
     let t = c .before in
     let p = t .before .before .before .before .pre in
     let i = rw (t .step4 .given .1) at (p .2) in
-    (p .1, i .2)
+    (i .2, record { number = _; so = p .1 .made _ (i .2) })
 
 returns : tie.Need-returns
 returns c = let w = c .before in rw (w .before .before .before .step .given .1) (w .inference .ensures)

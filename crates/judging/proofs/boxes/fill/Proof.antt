@@ -1,3 +1,4 @@
+use Rattle.meaning.specs.Limits.{mostPremises}
 use Prim.Native.Nat.{_+_}
 use native.Mathlib.Omega.{arith}
 use denote.Ref.{now}
@@ -7,8 +8,8 @@ use Rattle.judging.proofs.boxes.fill.Statement.{statement}
 use Rattle.judging.proofs.boxes.fill.Tie as tie
 
 -- the box after the declared bounds, and after the premises
-bounds : (c : tie.After-load) → Boxed (c .before .before .args .v) 17 (c .load .last .1 .1 .1 .0)
-bounds c = let o = c .before .before in rw (c .load .ensures) (boxed-loaded (now (o .args .model)) 1 (o .args .v) 17 (now (o .args .cells)) (omega (arith, o .pre .3)) (omega arith))
+bounds : (c : tie.After-load) → Boxed (c .before .before .args .v) (mostPremises + 1) (c .load .last .1 .1 .1 .0)
+bounds c = let o = c .before .before in rw (c .load .ensures) (boxed-loaded (now (o .args .model)) 1 (o .args .v) (mostPremises + 1) (now (o .args .cells)) (omega (arith, o .pre .3)) (omega arith))
 
 premises : (c : tie.After-narrow-each) → Boxed (c .before .before .before .before .before .args .v) 1 (c .narrow-each .last .1 .1 .1 .0)
 premises c =

@@ -14,7 +14,7 @@ use Rattle.judging.proofs.conclusions.is_at_least.Statement.{statement}
 use Rattle.judging.proofs.conclusions.is_at_least.Tie as tie
 
 number-at-requires : tie.Need-number-at-requires
-number-at-requires c κs = let a = c .pre in let h = a .relation .0 in (omega (arith, a .fits), omega (arith, zz))
+number-at-requires c κs = let a = c .pre .so in let h = a .relation .0 in (omega (arith, a .fits), omega (arith, zz))
 
 returns : tie.Need-returns
 returns c =

@@ -13,7 +13,7 @@ returns c =
     let d = s .before in
     let o = d .before .before in
     let l = now (o .args .log) in
-    c .verdict .ensures ∙ ap fits24 (s .says-false .ensures ∙ ap saysFalse (ap (factOf l) (d .cited .ensures) ∙ sym (cited-is (madeFact l) (now (o .args .places)) (o .args .k) (o .args .n .0) (o .pre .1) (o .pre .0 .enough))))
+    c .verdict .ensures ∙ ap fits24 (s .says-false .ensures ∙ ap saysFalse (ap (factOf l) (d .cited .ensures) ∙ sym (cited-is (madeFact l) (now (o .args .places)) (o .args .n .0) (o .pre .0))))
 
 pub no-assignment-spec : {M : Type 1} → statement M
 no-assignment-spec =

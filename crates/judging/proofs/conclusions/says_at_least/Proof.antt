@@ -6,13 +6,13 @@ use Rattle.judging.proofs.conclusions.says_at_least.Statement.{statemen
 use Rattle.judging.proofs.conclusions.says_at_least.Tie as tie
 
 is-at-least-requires : tie.Need-is-at-least-requires
-is-at-least-requires c κs = c .before .before .before .before .pre .consequence (c .if2 .taken)
+is-at-least-requires c κs = let p = c .before .before .before .before .pre in record { number = p .number; so = p .so .consequence (c .if2 .taken) }
 
 returns : tie.Need-returns
 returns c = let o = c .before .before .before .before .before in rw (least-so (now (o .args .log)) (o .args .fact) (o .args .x .0) (o .args .value) (c .before .before .before .if1 .taken) (c .before .if2 .taken)) (let g = o .fits .value in simp toZ-ofZ at (c .is-at-least .ensures))
 
 returns-2 : tie.Need-returns-2
-returns-2 c = let o = c .before .before .before .before in sym (least-none (now (o .args .log)) (o .args .fact) (o .args .x .0) (o .args .value) (c .before .before .if1 .taken) (o .pre .one) (c .if2 .left))
+returns-2 c = let o = c .before .before .before .before in sym (least-none (now (o .args .log)) (o .args .fact) (o .args .x .0) (o .args .value) (c .before .before .if1 .taken) (o .pre .so .one) (c .if2 .left))
 
 returns-3 : tie.Need-returns-3
 returns-3 c = let o = c .before .before in sym (least-not (now (o .args .log)) (o .args .fact) (o .args .x .0) (o .args .value) (c .if1 .left))

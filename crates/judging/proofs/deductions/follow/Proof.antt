@@ -7,8 +7,9 @@ use native.Mathlib.Omega.{arith}
 use native.Mathlib.Nat.{sub-zero}
 use borrow.Author.Needs.{needs}
 use denote.Ref.{now}
-use lib.ListN.{length, take}
+use lib.ListN.{length}
 use Rattle.meaning.specs.Check.{factAt}
+use Rattle.domain.specs.Box.{variables}
 use Rattle.domain.specs.Box.Narrow.{room-one}
 use Rattle.reading.specs.At.{natAt, Names}
 use Rattle.steps.specs.Facts.{FactIn, factOf, madeFact}
@@ -20,41 +21,41 @@ use Rattle.judging.proofs.deductions.follow.Statement.{statement}
 use Rattle.judging.proofs.deductions.follow.Tie as tie
 
 abbrev Inv-loop : tie.InvT-loop
-Inv-loop log places v k hints many cells i n f j₀ j = (j ≤ f .count) × (holdsEach log (f .count) (f .premises) cells ≡ rest (andHolds log cells) (f .count) (f .premises) true j)
+Inv-loop log places cells from many i n f j₀ j = (j ≤ f .count) × (holdsEach log (f .count) (f .premises) cells ≡ rest (andHolds log cells) (f .count) (f .premises) true j)
 
 abbrev μ-loop : tie.MeasureT-loop
-μ-loop log places v k hints many cells i n f j₀ j = f .count - j
+μ-loop log places cells from many i n f j₀ j = f .count - j
 
 abbrev Inv-hint : tie.InvT-hint
-Inv-hint log places v k hints many cells₀ i₀ cells i =
-    (i ≤ many) × (length cells ≡ length cells₀) × Boxed v (many - i) cells × Sofar v log (factAt (map (madeFact log) (take k places))) hints many cells₀ cells i
+Inv-hint log places cells₀ from many i₀ cells i =
+    (i ≤ many) × (length cells ≡ length cells₀) × Boxed (variables cells₀) (many - i) cells × Sofar (variables cells₀) log (factAt (map (madeFact log) places)) from many cells₀ cells i
 
 abbrev μ-hint : tie.MeasureT-hint
-μ-hint log places v k hints many cells₀ i₀ cells i = many - i
+μ-hint log places cells₀ from many i₀ cells i = many - i
 
 -- ---- the hint and the fact that it cites
-named : (c : tie.Else1 Inv-loop μ-loop Inv-hint μ-hint) → Names (c .before .before .before .args .k) (now (c .before .before .before .args .log)) (c .before .before .before .args .hints + c .before .hint .i)
+named : (c : tie.Else1 Inv-loop μ-loop Inv-hint μ-hint) → Names (length (now (c .before .before .before .args .places))) (now (c .before .before .before .args .log)) (c .before .before .before .args .hints .from + c .before .hint .i)
 named c = c .before .before .before .pre .1 .named (c .before .hint .i) (c .if1 .left)
 
-below : (c : tie.After-number-at Inv-loop μ-loop Inv-hint μ-hint) → c .number-at .result < c .before .before .before .before .args .k
+below : (c : tie.After-number-at Inv-loop μ-loop Inv-hint μ-hint) → c .number-at .result < length (now (c .before .before .before .before .args .places))
 below c = rw (c .number-at .ensures) (named (c .before) .known)
 
-fact-in : (c : tie.After-cited Inv-loop μ-loop Inv-hint μ-hint) → FactIn (c .before .before .before .before .before .args .v) (now (c .before .before .before .before .before .args .log)) (c .cited .result)
+fact-in : (c : tie.After-cited Inv-loop μ-loop Inv-hint μ-hint) → FactIn (variables (now (c .before .before .before .before .before .args .cells))) (now (c .before .before .before .before .before .args .log)) (c .cited .result)
 fact-in c = let n = c .before in let o = n .before .before .before .before in rw (c .cited .ensures) (o .pre .0 .made (n .number-at .result) (below n) .parts)
 
 fact-is : (c : tie.After-cited Inv-loop μ-loop Inv-hint μ-hint) → let o = c .before .before .before .before .before in
-    factAt (map (madeFact (now (o .args .log))) (take (o .args .k) (now (o .args .places)))) (natAt (now (o .args .log)) (o .args .hints + c .before .before .before .hint .i)) ≡ factOf (now (o .args .log)) (c .cited .result)
+    factAt (map (madeFact (now (o .args .log))) (now (o .args .places))) (natAt (now (o .args .log)) (o .args .hints .from + c .before .before .before .hint .i)) ≡ factOf (now (o .args .log)) (c .cited .result)
 fact-is c =
     let n = c .before in
     let o = n .before .before .before .before in
     let l = now (o .args .log) in
-    rw (c .cited .ensures, ← (n .number-at .ensures)) (cited-is (madeFact l) (now (o .args .places)) (o .args .k) (n .number-at .result) (below n) (o .pre .0 .enough))
+    rw (c .cited .ensures, ← (n .number-at .ensures)) (cited-is (madeFact l) (now (o .args .places)) (n .number-at .result) (below n))
 
 number-at-requires : tie.Need-number-at-requires Inv-loop μ-loop Inv-hint μ-hint
 number-at-requires c κs = let h = named c in (h .inside, h .signless)
 
 cited-requires : tie.Need-cited-requires Inv-loop μ-loop Inv-hint μ-hint
-cited-requires c κs = (c .before .before .before .before .pre .0, below c)
+cited-requires c κs = (below c, c .before .before .before .before .pre .0 .made (c .number-at .result) (below c) .begins)
 
 -- ---- the scan of its premises
 premise-fits : (c : tie.Else2 Inv-loop μ-loop Inv-hint μ-hint) → let l = c .before .before in l .before .cited .result .premises + l .loop .j * 3 + 3 ≤ length (now (l .before .before .before .before .before .before .args .log))
@@ -100,19 +101,19 @@ narrow-atom-requires c κs =
     let x = w .before .before in
     let h = x .before in
     let b = h .hint .inv .2 in
-    let many = h .before .before .args .many in
+    let many = h .before .before .args .hints .many in
     let z : suc (pred (many - h .hint .i)) ≡ many - h .hint .i = omega (arith, x .if1 .left) in
     (rw (b .counted) (fact-in w .consequence (one e)), b .formed, room-one _ (pred (many - h .hint .i)) (rw z (b .room)))
 
 -- the box after it
 narrower : (c : tie.After-narrow-atom Inv-loop μ-loop Inv-hint μ-hint) → let h = c .before .before .before .before .before .before .before .before .before .before in
-    Boxed (h .before .before .args .v) (h .before .before .args .many - (h .hint .i + 1)) (c .narrow-atom .last .1 .1 .0)
+    Boxed (variables (now (h .before .before .args .cells))) (h .before .before .args .hints .many - (h .hint .i + 1)) (c .narrow-atom .last .1 .1 .0)
 narrower c =
     let e = c .before .before in
     let w = e .before .before .before .before .before in
     let x = w .before .before in
     let h = x .before in
-    let many = h .before .before .args .many in
+    let many = h .before .before .args .hints .many in
     let z : many - h .hint .i ≡ suc (many - (h .hint .i + 1)) = omega (arith, x .if1 .left) in
     rw (c .narrow-atom .ensures) (boxed-narrowed (h .hint .cells) _ _ _ (rw z at (h .hint .inv .2)) (fact-in w .consequence (one e) .named .known))
 
@@ -182,7 +183,7 @@ follow-spec =
     μ-loop
     Inv-hint
     μ-hint
-    (λ c. let o = c .before in let b = o .pre .2 in (omega arith, refl, record { formed = b .formed; counted = b .counted; room = rw sub-zero (b .room) }, at-first (o .args .v) (now (o .args .log)) _ (o .args .hints) (o .args .many) (now (o .args .cells))))
+    (λ c. let o = c .before in let b = o .pre .2 in (omega arith, refl, record { formed = b .formed; counted = b .counted; room = rw sub-zero (b .room) }, at-first (variables (now (o .args .cells))) (now (o .args .log)) _ (o .args .hints .from) (o .args .hints .many) (now (o .args .cells))))
     (λ c. let h = named c in record { fits = omega (arith, h .inside) })
     number-at-requires
     cited-requires
