@@ -6,6 +6,7 @@ use native.Mathlib.Omega.{arith}
 use lib.IntN.{ℤ, pos}
 use lib.ListN.{length, getD}
 use lib.Signed.{_≤ℤ_}
+use Rattle.meaning.specs.Limits.{mostUsage}
 use Rattle.reading.specs.At.{natAt}
 use Rattle.model.specs.Rows.{KindIn, linear-in, all-different-in, cumulative-in, circuit-in, Counted, TermsIn, VariablesIn, ActivitiesIn}
 
@@ -23,7 +24,7 @@ module _ (v : ℕ) (s : List ℤ) (p : ℕ) where
   all-different-known e (circuit-in c t) = absurd (omega arith)
 
   pub cumulative-known : {k : ℕ} → k ≡ 3 → KindIn v s p k
-      → Counted 1 s p × (p + 1 < length s) × ((pos 0 ≤ℤ getD s (p + 1) (pos 0)) × (getD s (p + 1) (pos 0) ≤ℤ pos 1000000)) × ActivitiesIn v s (p + 2) (natAt s p)
+      → Counted 1 s p × (p + 1 < length s) × ((pos 0 ≤ℤ getD s (p + 1) (pos 0)) × (getD s (p + 1) (pos 0) ≤ℤ pos mostUsage)) × ActivitiesIn v s (p + 2) (natAt s p)
   cumulative-known e (linear-in c b t) = absurd (omega arith)
   cumulative-known e (all-different-in c t) = absurd (omega arith)
   cumulative-known e (cumulative-in c b r t) = (c, b, r, t)

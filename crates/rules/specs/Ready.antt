@@ -5,6 +5,7 @@ use mathlib.Core.Bool.{false}
 use mathlib.Core.List.{List, [], _∷_, List·Memᴰ as In}
 use native.Mathlib.Omega.{arith}
 use lib.IntN.{ℤ, natAbs}
+use Rattle.meaning.specs.Limits.{mostValue}
 use Rattle.words.specs.Lists.{isEmpty, least, largest}
 use Rattle.words.specs.ListFacts.{least-in, largest-in}
 use Rattle.domain.specs.Box.{Formed, variables, values}
@@ -13,7 +14,7 @@ use Rattle.domain.specs.Box.{Formed, variables, values}
 pub record Ready (cells : List ℤ) : Type 0 where
   pub formed : Formed cells
   pub some-left : (x : ℕ) → x < variables cells → isEmpty (values cells x) ≡ false
-  pub small : (x : ℕ) (v : ℤ) → In v (values cells x) → natAbs v ≤ 100000
+  pub small : (x : ℕ) (v : ℤ) → In v (values cells x) → natAbs v ≤ mostValue
 
 -- where every value is small, so are the least and the largest
 pub least-small : (k : ℕ) (vs : List ℤ) → ((v : ℤ) → In v vs → natAbs v ≤ k) → natAbs (least vs) ≤ k

@@ -14,7 +14,7 @@ ghost use Rattle.model.specs.Rows.{Counted, VariablesIn};
 ghost use Rattle.domain.specs.Box.{Formed, variables, values};
 ghost use Rattle.domain.specs.Told.{toldNext};
 ghost use Rattle.rules.specs.Ready.{Ready};
-ghost use Rattle.rules.specs.Soonest.{sooner, soonestOf};
+ghost use Rattle.rules.specs.AllDifferent.Soonest.{sooner, soonestOf};
 
 // The smaller of two values, where there are two.
 fn sooner(a: Next, b: Next) -> Next

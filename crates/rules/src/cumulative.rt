@@ -1,4 +1,14 @@
 // The cumulative row: some activity finds no room at any start left to it, beside the sure parts of the others.
+//
+// Why the search leaps. A start of an activity is blocked where it covers a time that is too full: its usage and what the others
+// surely use then exceed the capacity. What the others surely use falls only where one of their sure parts ends. So a time that is
+// too full is followed by such times alone, up to the next end. Two leaps follow from a start s that is tried.
+// - The last time that s covers is too full. A later start before the next end either covers that time too, or begins at a time
+//   that is too full. The next start worth a try is that end.
+// - The last time is not, but some time before it is. The latest such time comes just before an end e. Each start from s up to e
+//   covers it. The next start worth a try is e.
+// Where neither is so, s is free. Each leap but the last goes to an end of a sure part: there are hardly more leaps than activities,
+// however long they last.
 use crate::variable_at;
 use reading::number_at;
 ghost use mathlib.Core.Path.{_≡_};
@@ -8,20 +18,21 @@ ghost use Prim.Native.Nat.{_+_, _<_, _≤_};
 ghost use lib.IntN.{pos, _+ℤ_};
 ghost use lib.ListN.{length, getD};
 ghost use lib.Signed.{_≤ℤ_};
+ghost use Rattle.meaning.specs.Limits.{mostUsage, mostParts};
 ghost use Rattle.meaning.specs.Rule.{overloaded, squeezed};
 ghost use Rattle.meaning.specs.Proved.Below.{someBelow};
 ghost use Rattle.reading.specs.At.{natAt, eachAt};
 ghost use Rattle.model.specs.Rows.{activityAt, Counted, ActivitiesIn};
 ghost use Rattle.domain.specs.Box.{variables, values};
 ghost use Rattle.rules.specs.Ready.{Ready};
-ghost use Rattle.rules.specs.CumulativeTable.{fromOf, usedAt, load, overBy, nearer, nextEnd, later, lastBad, leap, Sized, Loads, Capacity, Start};
-ghost use Rattle.rules.specs.CumulativeFill.{Peaked, partPut, Filled, ActivityIn};
-ghost use Rattle.rules.specs.CumulativeTop.{topOf};
-ghost use Rattle.rules.specs.CumulativeRow.{squeezes, Prepared};
+ghost use Rattle.rules.specs.Cumulative.Table.{fromOf, usedAt, load, overBy, nearer, nextEnd, later, lastBad, leap, Sized, Loads, Capacity, Start};
+ghost use Rattle.rules.specs.Cumulative.Fill.{Peaked, partPut, Filled, ActivityIn};
+ghost use Rattle.rules.specs.Cumulative.Top.{topOf};
+ghost use Rattle.rules.specs.Cumulative.Row.{squeezes, Prepared};
 
 // What activity k surely uses at t.
 fn used_at(parts: &[i32], k: usize, t: i32) -> i32
-    requires { ⌜ (k < 16) × (length (now parts) ≡ 48) ⌝ }
+    requires { ⌜ (k < mostParts) × (length (now parts) ≡ 48) ⌝ }
     ensures { λ r. ⌜ r ≡ usedAt (now (parts .entry)) t k ⌝ }
 {
     let from = parts[k];
@@ -37,7 +48,7 @@ fn used_at(parts: &[i32], k: usize, t: i32) -> i32
 
 // What the first n activities surely use at t.
 fn sure_at(parts: &[i32], n: usize, t: i32) -> i32
-    requires { ⌜ (n ≤ 16) × Sized (now parts) ⌝ }
+    requires { ⌜ (n ≤ mostParts) × Sized (now parts) ⌝ }
     ensures { λ r. ⌜ r ≡ load (now (parts .entry)) t n ⌝ }
 {
     let mut sum: i32 = 0;
@@ -51,7 +62,7 @@ fn sure_at(parts: &[i32], n: usize, t: i32) -> i32
 
 // Whether activity i and the sure parts of the others use more than the capacity at t, a time when all surely use `load`.
 fn over(parts: &[i32], i: usize, t: i32, load: i32, capacity: i32) -> bool
-    requires { ⌜ (i < 16) × Sized (now parts) × Capacity capacity × (pos 0 ≤ℤ load) × (load ≤ℤ pos 16000000) ⌝ }
+    requires { ⌜ (i < mostParts) × Sized (now parts) × Capacity capacity × (pos 0 ≤ℤ load) × (load ≤ℤ pos 16000000) ⌝ }
     ensures { λ r. ⌜ r ≡ overBy (now (parts .entry)) capacity i t load ⌝ }
 {
     let usage = parts[i + 32];
@@ -61,7 +72,7 @@ fn over(parts: &[i32], i: usize, t: i32, load: i32, capacity: i32) -> bool
 
 // The end of activity k's sure part, where it comes after t and before u; else u. Activity i does not count.
 fn nearer_end(parts: &[i32], i: usize, t: i32, k: usize, u: i32) -> i32
-    requires { ⌜ (k < 16) × (length (now parts) ≡ 48) ⌝ }
+    requires { ⌜ (k < mostParts) × (length (now parts) ≡ 48) ⌝ }
     ensures { λ r. ⌜ r ≡ nearer (now (parts .entry)) i t k u ⌝ }
 {
     let end = parts[k + 16];
@@ -78,7 +89,7 @@ fn nearer_end(parts: &[i32], i: usize, t: i32, k: usize, u: i32) -> i32
 
 // The first end of another activity's sure part after t; one past the largest start left to i, where none comes before that.
 fn next_end(parts: &[i32], n: usize, i: usize, t: i32) -> i32
-    requires { ⌜ (n ≤ 16) × (i < 16) × Sized (now parts) ⌝ }
+    requires { ⌜ (n ≤ mostParts) × (i < mostParts) × Sized (now parts) ⌝ }
     ensures { λ r. ⌜ r ≡ nextEnd (now (parts .entry)) i t (fromOf (now (parts .entry)) i +ℤ pos 1) n ⌝ }
 {
     let mut u = parts[i] + 1;
@@ -100,7 +111,7 @@ fn later_end(
     k: usize,
     e: i32,
 ) -> i32
-    requires { ⌜ (k < 16) × (i < 16) × Sized (now parts) × Loads (now peaks) × Capacity capacity ⌝ }
+    requires { ⌜ (k < mostParts) × (i < mostParts) × Sized (now parts) × Loads (now peaks) × Capacity capacity ⌝ }
     ensures { λ r. ⌜ r ≡ later (now (parts .entry)) (now (peaks .entry)) capacity i stop k e ⌝ }
 {
     let until = parts[k + 16];
@@ -125,7 +136,7 @@ fn last_bad(
     s: i32,
     stop: i32,
 ) -> i32
-    requires { ⌜ (n ≤ 16) × (i < 16) × Sized (now parts) × Loads (now peaks) × Capacity capacity ⌝ }
+    requires { ⌜ (n ≤ mostParts) × (i < mostParts) × Sized (now parts) × Loads (now peaks) × Capacity capacity ⌝ }
     ensures { λ r. ⌜ r ≡ lastBad (now (parts .entry)) (now (peaks .entry)) capacity i s stop n ⌝ }
 {
     let mut e = s;
@@ -147,7 +158,7 @@ fn leap_from(
     s: i32,
     lasts: i32,
 ) -> i32
-    requires { ⌜ (n ≤ 16) × (i < 16) × Sized (now parts) × Loads (now peaks) × Capacity capacity × Start s lasts ⌝ }
+    requires { ⌜ (n ≤ mostParts) × (i < mostParts) × Sized (now parts) × Loads (now peaks) × Capacity capacity × Start s lasts ⌝ }
     ensures { λ r. ⌜ r ≡ leap (now (parts .entry)) (now (peaks .entry)) n capacity i s lasts ⌝ }
 {
     let stop = s + lasts;
@@ -161,7 +172,7 @@ fn leap_from(
 
 // Stores the sure part of the activity at `at` of the model as activity k's.
 fn fill_part(model: &[i32], at: usize, cells: &[i32], parts: &mut [i32], k: usize)
-    requires { ⌜ (k < 16) × ActivityIn (variables (now cells)) (now model) at × Ready (now cells) × (length (now parts) ≡ 48) ⌝ }
+    requires { ⌜ (k < mostParts) × ActivityIn (variables (now cells)) (now model) at × Ready (now cells) × (length (now parts) ≡ 48) ⌝ }
     ensures { λ _. ⌜ now (parts .exit) ≡ partPut (values (now (cells .entry))) (activityAt (now (model .entry)) at) k (now (parts .entry)) ⌝ }
 {
     let x = variable_at(model, at);
@@ -176,7 +187,7 @@ fn fill_part(model: &[i32], at: usize, cells: &[i32], parts: &mut [i32], k: usiz
 
 // Stores the sure parts of n activities, which begin at q of the model.
 fn fill_parts(model: &[i32], q: usize, n: usize, cells: &[i32], parts: &mut [i32])
-    requires { ⌜ (n ≤ 16) × ActivitiesIn (variables (now cells)) (now model) q n × Ready (now cells) × Sized (now parts) ⌝ }
+    requires { ⌜ (n ≤ mostParts) × ActivitiesIn (variables (now cells)) (now model) q n × Ready (now cells) × Sized (now parts) ⌝ }
     ensures { λ _. ⌜ Filled (values (now (cells .entry))) (now (model .entry)) q n (now (parts .exit)) ⌝ }
 {
     let mut k: usize = 0;
@@ -188,7 +199,7 @@ fn fill_parts(model: &[i32], q: usize, n: usize, cells: &[i32], parts: &mut [i32
 
 // Stores what is surely in use just before the end of each of n sure parts.
 fn fill_peaks(parts: &[i32], n: usize, peaks: &mut [i32])
-    requires { ⌜ (n ≤ 16) × Sized (now parts) × Loads (now peaks) ⌝ }
+    requires { ⌜ (n ≤ mostParts) × Sized (now parts) × Loads (now peaks) ⌝ }
     ensures { λ _. ⌜ Peaked (now (parts .entry)) n n (now (peaks .exit)) ⌝ }
 {
     let mut k: usize = 0;
@@ -237,7 +248,7 @@ fn squeezed_at(
 
 // The most that is surely in use at any time.
 fn highest(peaks: &[i32], n: usize) -> i32
-    requires { ⌜ (n ≤ 16) × Loads (now peaks) ⌝ }
+    requires { ⌜ (n ≤ mostParts) × Loads (now peaks) ⌝ }
     ensures { λ r. ⌜ r ≡ topOf (now (peaks .entry)) n ⌝ }
 {
     let mut top: i32 = 0;
@@ -278,7 +289,7 @@ fn some_squeezed(model: &[i32], p: usize, cells: &[i32], parts: &[i32], peaks: &
 // Whether a cumulative row conflicts with the box. The row's words after its kind begin at p: how many activities, the capacity, the
 // activities (start variable, duration, usage).
 pub fn conflicts(model: &[i32], p: usize, cells: &[i32]) -> bool
-    requires { ⌜ Counted 1 (now model) p × (p + 1 < length (now model)) × ((pos 0 ≤ℤ getD (now model) (p + 1) (pos 0)) × (getD (now model) (p + 1) (pos 0) ≤ℤ pos 1000000)) × ActivitiesIn (variables (now cells)) (now model) (p + 2) (natAt (now model) p) × Ready (now cells) ⌝ }
+    requires { ⌜ Counted 1 (now model) p × (p + 1 < length (now model)) × ((pos 0 ≤ℤ getD (now model) (p + 1) (pos 0)) × (getD (now model) (p + 1) (pos 0) ≤ℤ pos mostUsage)) × ActivitiesIn (variables (now cells)) (now model) (p + 2) (natAt (now model) p) × Ready (now cells) ⌝ }
     ensures { λ r. ⌜ r ≡ (overloaded (values (now (cells .entry))) (natAt (now (model .entry)) (p + 1)) (eachAt activityAt 3 (natAt (now (model .entry)) p) (now (model .entry)) (p + 2)) || squeezed (values (now (cells .entry))) (natAt (now (model .entry)) (p + 1)) [] (eachAt activityAt 3 (natAt (now (model .entry)) p) (now (model .entry)) (p + 2))) ⌝ }
 {
     let n = number_at(model, p);

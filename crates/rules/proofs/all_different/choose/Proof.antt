@@ -10,7 +10,7 @@ use denote.Ref.{now}
 use borrow.Author.Needs.{needs}
 use Rattle.marks.specs.Marks.{marked}
 use Rattle.reading.specs.At.{natAt}
-use Rattle.rules.specs.AllDifferent.{chosen, toCome, chosen-start, chosen-taken, chosen-left, chosen-end}
+use Rattle.rules.specs.AllDifferent.Chosen.{chosen, toCome, chosen-start, chosen-taken, chosen-left, chosen-end}
 use Rattle.rules.proofs.all_different.choose.Statement.{statement}
 use Rattle.rules.proofs.all_different.choose.Tie as tie
 

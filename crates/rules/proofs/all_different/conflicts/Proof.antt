@@ -10,7 +10,7 @@ use Rattle.marks.specs.Marks.{marked}
 use Rattle.meaning.specs.Rule.{crowded}
 use Rattle.reading.specs.At.{natAt}
 use Rattle.domain.specs.Box.{variables, values}
-use Rattle.rules.specs.AllDifferent.{more-named, chosen-known}
+use Rattle.rules.specs.AllDifferent.Chosen.{more-named, chosen-known}
 use Rattle.rules.proofs.all_different.conflicts.Statement.{statement}
 use Rattle.rules.proofs.all_different.conflicts.Tie as tie
 

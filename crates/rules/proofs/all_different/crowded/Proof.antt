@@ -14,8 +14,8 @@ use Rattle.words.specs.Int.{fit}
 use Rattle.meaning.specs.Rule.{union}
 use Rattle.domain.specs.Box.{values, values-rising}
 use Rattle.domain.specs.Told.{toldNext}
-use Rattle.rules.specs.Soonest.{Soonest, soonest}
-use Rattle.rules.specs.Crowded.{SoFar, soonest-small, after-fits, count-start, count-next, count-used-up, count-enough}
+use Rattle.rules.specs.AllDifferent.Soonest.{Soonest, soonest}
+use Rattle.rules.specs.AllDifferent.Crowded.{SoFar, soonest-small, after-fits, count-start, count-next, count-used-up, count-enough}
 use Rattle.rules.proofs.all_different.crowded.Statement.{statement}
 use Rattle.rules.proofs.all_different.crowded.Tie as tie
 

@@ -13,7 +13,7 @@ use Rattle.words.specs.ListFacts.{each-at}
 use Rattle.domain.specs.Box.{values}
 use Rattle.domain.specs.Sets.{firstFrom}
 use Rattle.domain.specs.Told.{toldNext}
-use Rattle.rules.specs.Soonest.{sooner, soonestOf, soonest-next, soonest-end}
+use Rattle.rules.specs.AllDifferent.Soonest.{sooner, soonestOf, soonest-next, soonest-end}
 use Rattle.rules.proofs.all_different.next_value.Statement.{statement}
 use Rattle.rules.proofs.all_different.next_value.Tie as tie
 

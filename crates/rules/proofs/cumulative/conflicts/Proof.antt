@@ -4,8 +4,8 @@ use borrow.Author.Needs.{needs}
 use denote.Ref.{now}
 use Rattle.model.specs.Rows.{ActivitiesIn}
 use Rattle.domain.specs.Box.{variables}
-use Rattle.rules.specs.CumulativeFill.{sized-zeros, loads-zeros}
-use Rattle.rules.specs.CumulativeRow.{by-activity}
+use Rattle.rules.specs.Cumulative.Fill.{sized-zeros, loads-zeros}
+use Rattle.rules.specs.Cumulative.Row.{by-activity}
 use Rattle.rules.proofs.cumulative.conflicts.Statement.{statement}
 use Rattle.rules.proofs.cumulative.conflicts.Tie as tie
 

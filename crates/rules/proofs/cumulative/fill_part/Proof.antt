@@ -11,12 +11,12 @@ use mir.Val.{SFits}
 use mir.Facts.{toZ-ofZ}
 use Rattle.words.specs.Int.{zz, fit}
 use Rattle.words.specs.Lists.{least, largest}
-use Rattle.meaning.specs.Proved.Jumps.{ending}
+use Rattle.rules.specs.Cumulative.Jumps.{ending}
 use Rattle.reading.specs.At.{natAt}
 use Rattle.model.specs.Rows.{activityAt}
 use Rattle.domain.specs.Box.{values}
-use Rattle.rules.specs.CumulativeFacts.{small-fits}
-use Rattle.rules.specs.CumulativeFill.{signless, ending-small}
+use Rattle.rules.specs.Cumulative.Facts.{small-fits}
+use Rattle.rules.specs.Cumulative.Fill.{signless, ending-small}
 use Rattle.rules.proofs.cumulative.fill_part.Statement.{statement}
 use Rattle.rules.proofs.cumulative.fill_part.Tie as tie
 

@@ -6,7 +6,7 @@ use borrow.Author.Needs.{needs}
 use lib.ListN.{length}
 use denote.Ref.{now}
 use Rattle.domain.specs.Box.{values}
-use Rattle.rules.specs.CumulativeFill.{Filled, filled-none, filled-more, one-activity}
+use Rattle.rules.specs.Cumulative.Fill.{Filled, filled-none, filled-more, one-activity}
 use Rattle.rules.proofs.cumulative.fill_parts.Statement.{statement}
 use Rattle.rules.proofs.cumulative.fill_parts.Tie as tie
 

@@ -10,9 +10,9 @@ use mir.Syntax.{w32}
 use mir.Val.{SFits}
 use mir.Facts.{toZ-ofZ}
 use Rattle.words.specs.Int.{zz, fit}
-use Rattle.rules.specs.CumulativeTable.{untilOf, peak}
-use Rattle.rules.specs.CumulativeFacts.{near-fits}
-use Rattle.rules.specs.CumulativeFill.{Peaked, peaked-none, peaked-more}
+use Rattle.rules.specs.Cumulative.Table.{untilOf, peak}
+use Rattle.rules.specs.Cumulative.Facts.{near-fits}
+use Rattle.rules.specs.Cumulative.Fill.{Peaked, peaked-none, peaked-more}
 use Rattle.rules.proofs.cumulative.fill_peaks.Statement.{statement}
 use Rattle.rules.proofs.cumulative.fill_peaks.Tie as tie
 

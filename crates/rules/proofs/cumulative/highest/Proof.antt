@@ -10,7 +10,7 @@ use mir.Syntax.{w32}
 use mir.Val.{toZ}
 use mir.Facts.{toZ-ofZ}
 use Rattle.words.specs.Int.{fit}
-use Rattle.rules.specs.CumulativeTop.{topOf, top-none, top-more}
+use Rattle.rules.specs.Cumulative.Top.{topOf, top-none, top-more}
 use Rattle.rules.proofs.cumulative.highest.Statement.{statement}
 use Rattle.rules.proofs.cumulative.highest.Tie as tie
 

@@ -8,8 +8,8 @@ use mir.Syntax.{w32}
 use mir.Val.{toZ}
 use mir.Facts.{toZ-ofZ}
 use Rattle.words.specs.Int.{fit}
-use Rattle.rules.specs.CumulativeTable.{lastBad}
-use Rattle.rules.specs.CumulativeFacts.{bad-none, bad-more}
+use Rattle.rules.specs.Cumulative.Table.{lastBad}
+use Rattle.rules.specs.Cumulative.Facts.{bad-none, bad-more}
 use Rattle.rules.proofs.cumulative.last_bad.Statement.{statement}
 use Rattle.rules.proofs.cumulative.last_bad.Tie as tie
 

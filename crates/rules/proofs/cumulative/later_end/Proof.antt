@@ -9,8 +9,8 @@ use mir.Syntax.{w32}
 use mir.Val.{SFits}
 use mir.Facts.{toZ-ofZ}
 use Rattle.words.specs.Int.{zz, fit, le32-t, le32-f, lt32-t, lt32-f}
-use Rattle.rules.specs.CumulativeTable.{untilOf, overBy}
-use Rattle.rules.specs.CumulativeFacts.{near-fits}
+use Rattle.rules.specs.Cumulative.Table.{untilOf, overBy}
+use Rattle.rules.specs.Cumulative.Facts.{near-fits}
 use Rattle.rules.proofs.cumulative.later_end.Statement.{statement}
 use Rattle.rules.proofs.cumulative.later_end.Tie as tie
 

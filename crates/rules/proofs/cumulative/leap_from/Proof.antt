@@ -9,8 +9,8 @@ use mir.Syntax.{w32}
 use mir.Val.{SFits}
 use mir.Facts.{toZ-ofZ}
 use Rattle.words.specs.Int.{zz, fit}
-use Rattle.rules.specs.CumulativeTable.{load, over}
-use Rattle.rules.specs.CumulativeFacts.{start-fits, load-small, leap-over, leap-under}
+use Rattle.rules.specs.Cumulative.Table.{load, over}
+use Rattle.rules.specs.Cumulative.Facts.{start-fits, load-small, leap-over, leap-under}
 use Rattle.rules.proofs.cumulative.leap_from.Statement.{statement}
 use Rattle.rules.proofs.cumulative.leap_from.Tie as tie
 

@@ -5,7 +5,7 @@ use denote.Ref.{now}
 use mir.Syntax.{w32}
 use mir.Facts.{toZ-ofZ}
 use Rattle.words.specs.Int.{fit, lt32-t, lt32-f}
-use Rattle.rules.specs.CumulativeTable.{untilOf}
+use Rattle.rules.specs.Cumulative.Table.{untilOf}
 use Rattle.rules.proofs.cumulative.nearer_end.Statement.{statement}
 use Rattle.rules.proofs.cumulative.nearer_end.Tie as tie
 

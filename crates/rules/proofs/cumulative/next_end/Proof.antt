@@ -9,8 +9,8 @@ use mir.Syntax.{w32}
 use mir.Val.{toZ, SFits}
 use mir.Facts.{toZ-ofZ}
 use Rattle.words.specs.Int.{zz, fit}
-use Rattle.rules.specs.CumulativeTable.{fromOf, nextEnd}
-use Rattle.rules.specs.CumulativeFacts.{next-none, next-more, near-fits}
+use Rattle.rules.specs.Cumulative.Table.{fromOf, nextEnd}
+use Rattle.rules.specs.Cumulative.Facts.{next-none, next-more, near-fits}
 use Rattle.rules.proofs.cumulative.next_end.Statement.{statement}
 use Rattle.rules.proofs.cumulative.next_end.Tie as tie
 

@@ -9,8 +9,8 @@ use mir.Syntax.{w32}
 use mir.Val.{SFits}
 use mir.Facts.{toZ-ofZ}
 use Rattle.words.specs.Int.{zz, fit}
-use Rattle.rules.specs.CumulativeTable.{usageOf, usedAt}
-use Rattle.rules.specs.CumulativeFacts.{used-small, sum-fits}
+use Rattle.rules.specs.Cumulative.Table.{usageOf, usedAt}
+use Rattle.rules.specs.Cumulative.Facts.{used-small, sum-fits}
 use Rattle.rules.proofs.cumulative.over.Statement.{statement}
 use Rattle.rules.proofs.cumulative.over.Tie as tie
 

@@ -16,10 +16,10 @@ use Rattle.words.specs.Int.{zz, fit, lt32-f}
 use Rattle.meaning.specs.Proved.Below.{someBelow, some-holds}
 use Rattle.reading.specs.At.{natAt}
 use Rattle.domain.specs.Box.{values}
-use Rattle.rules.specs.CumulativeTable.{usageOf}
-use Rattle.rules.specs.CumulativeFacts.{diff-fits, not-below}
-use Rattle.rules.specs.CumulativeTop.{topOf}
-use Rattle.rules.specs.CumulativeRow.{squeezes, row-overload, row-fits, top-small, none-more}
+use Rattle.rules.specs.Cumulative.Table.{usageOf}
+use Rattle.rules.specs.Cumulative.Facts.{diff-fits, not-below}
+use Rattle.rules.specs.Cumulative.Top.{topOf}
+use Rattle.rules.specs.Cumulative.Row.{squeezes, row-overload, row-fits, top-small, none-more}
 use Rattle.rules.proofs.cumulative.some_squeezed.Statement.{statement}
 use Rattle.rules.proofs.cumulative.some_squeezed.Tie as tie
 

@@ -15,11 +15,11 @@ use Rattle.reading.specs.At.{natAt}
 use Rattle.domain.specs.Sets.{firstFrom}
 use Rattle.domain.specs.Told.{toldNext}
 use Rattle.domain.specs.Box.{variables, values}
-use Rattle.rules.specs.CumulativeTable.{fromOf, untilOf, leap}
-use Rattle.rules.specs.CumulativeFacts.{small-fits}
-use Rattle.rules.specs.CumulativeFill.{ActivityIn}
-use Rattle.rules.specs.CumulativeSearch.{Searching}
-use Rattle.rules.specs.CumulativeRow.{activities, nobody, own-activity, try-start, try-small, try-free, try-beyond, try-none, try-on}
+use Rattle.rules.specs.Cumulative.Table.{fromOf, untilOf, leap}
+use Rattle.rules.specs.Cumulative.Facts.{small-fits}
+use Rattle.rules.specs.Cumulative.Fill.{ActivityIn}
+use Rattle.rules.specs.Cumulative.Search.{Searching}
+use Rattle.rules.specs.Cumulative.Row.{activities, nobody, own-activity, try-start, try-small, try-free, try-beyond, try-none, try-on}
 use Rattle.rules.proofs.cumulative.squeezed_at.Statement.{statement}
 use Rattle.rules.proofs.cumulative.squeezed_at.Tie as tie
 

@@ -9,8 +9,8 @@ use mir.Syntax.{w32}
 use mir.Val.{toZ, SFits}
 use mir.Facts.{toZ-ofZ}
 use Rattle.words.specs.Int.{zz, fit, sum}
-use Rattle.rules.specs.CumulativeTable.{load}
-use Rattle.rules.specs.CumulativeFacts.{load-none, load-more, load-small}
+use Rattle.rules.specs.Cumulative.Table.{load}
+use Rattle.rules.specs.Cumulative.Facts.{load-none, load-more, load-small}
 use Rattle.rules.proofs.cumulative.sure_at.Statement.{statement}
 use Rattle.rules.proofs.cumulative.sure_at.Tie as tie
 

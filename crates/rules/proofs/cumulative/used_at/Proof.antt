@@ -4,7 +4,7 @@ use denote.Ref.{now}
 use mir.Syntax.{w32}
 use mir.Facts.{toZ-ofZ}
 use Rattle.words.specs.Int.{fit, le32-t, le32-f, lt32-t, lt32-f}
-use Rattle.rules.specs.CumulativeTable.{fromOf, untilOf, usageOf}
+use Rattle.rules.specs.Cumulative.Table.{fromOf, untilOf, usageOf}
 use Rattle.rules.proofs.cumulative.used_at.Statement.{statement}
 use Rattle.rules.proofs.cumulative.used_at.Tie as tie
 

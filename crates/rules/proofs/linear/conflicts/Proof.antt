@@ -13,7 +13,7 @@ use borrow.Author.Needs.{needs}
 use Rattle.words.specs.Int.{fit, wide}
 use Rattle.reading.specs.At.{natAt}
 use Rattle.domain.specs.Box.{values}
-use Rattle.rules.specs.Linear.{whole, rest, term-small, more-small, sum-start, sum-next, sum-end}
+use Rattle.rules.specs.Linear.Sum.{whole, rest, term-small, more-small, sum-start, sum-next, sum-end}
 use Rattle.rules.proofs.linear.conflicts.Statement.{statement}
 use Rattle.rules.proofs.linear.conflicts.Tie as tie
 

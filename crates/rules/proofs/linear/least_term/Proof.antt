@@ -10,7 +10,7 @@ use borrow.Author.Needs.{needs}
 use Rattle.words.specs.Int.{fit}
 use Rattle.reading.specs.At.{natAt}
 use Rattle.domain.specs.Box.{values}
-use Rattle.rules.specs.Linear.{term-below, term-above}
+use Rattle.rules.specs.Linear.Sum.{term-below, term-above}
 use Rattle.rules.proofs.linear.least_term.Statement.{statement}
 use Rattle.rules.proofs.linear.least_term.Tie as tie
 

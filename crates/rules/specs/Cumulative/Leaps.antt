@@ -15,12 +15,12 @@ use Rattle.words.specs.ListFacts.{tested, clash, any-found, or-cases, and-true,
 use Rattle.meaning.specs.Model.{Activity}
 use Rattle.meaning.specs.Rule.{sure}
 use Rattle.meaning.specs.Proved.Loads.{Bad}
-use Rattle.meaning.specs.Proved.Jumps.{ending, bad, tries, tried, tries-covers, Passed, passed-jump}
+use Rattle.rules.specs.Cumulative.Jumps.{ending, bad, tries, tried, tries-covers, Passed, passed-jump}
 use Rattle.meaning.specs.Proved.Positions.{othersOf, others-at}
-use Rattle.rules.specs.CumulativeTable.{fromOf, untilOf, over, overBy, nextEnd, peak, leap}
-use Rattle.rules.specs.CumulativeFacts.{leap-over, leap-under}
-use Rattle.rules.specs.CumulativeEnds.{next-first, noRoom, Last, nowhere, found, last-is}
-use Rattle.rules.specs.CumulativeParts.{Part, over-is}
+use Rattle.rules.specs.Cumulative.Table.{fromOf, untilOf, over, overBy, nextEnd, peak, leap}
+use Rattle.rules.specs.Cumulative.Facts.{leap-over, leap-under}
+use Rattle.rules.specs.Cumulative.Ends.{next-first, noRoom, Last, nowhere, found, last-is}
+use Rattle.rules.specs.Cumulative.Parts.{Part, over-is}
 
 -- the number before v, the other way round
 of-before : (v w : ℤ) → (v -ℤ pos 1) <ℤ w → v ≤ℤ w

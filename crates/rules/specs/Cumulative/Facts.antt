@@ -9,9 +9,10 @@ use lib.IntN.{ℤ, pos, negsuc, _+ℤ_, _-ℤ_}
 use lib.Signed.{_≤ℤ_, ltZ}
 use mir.Syntax.{w32}
 use mir.Val.{SFits}
+use Rattle.meaning.specs.Limits.{mostUsage, mostParts}
 use Rattle.words.specs.Int.{zz, sum, diff}
 use Rattle.meaning.specs.Rule.{during}
-use Rattle.rules.specs.CumulativeTable.{fromOf, untilOf, usageOf, usedAt, load, over, nearer, nextEnd, later, lastBad, leap, Sized, Start}
+use Rattle.rules.specs.Cumulative.Table.{fromOf, untilOf, usageOf, usedAt, load, over, nearer, nextEnd, later, lastBad, leap, Sized, Start}
 
 -- ---- a turn of each loop
 module _ (ps : List ℤ) (t : ℤ) (k : ℕ) where
@@ -71,14 +72,14 @@ pub start-fits : (s lasts : ℤ) → Start s lasts → SFits w32 (s +ℤ lasts) 
 start-fits s lasts h = (near-fits s lasts (omega (arith, zz)) (omega (arith, zz)), near-fits (s +ℤ lasts) (negsuc 0) (omega (arith, zz)) (omega (arith, zz)))
 
 module _ (ps : List ℤ) (sized : Sized ps) (t : ℤ) where
-  pub used-small : (k : ℕ) → k < 16 → (pos 0 ≤ℤ usedAt ps t k) × (usedAt ps t k ≤ℤ pos 1000000)
+  pub used-small : (k : ℕ) → k < mostParts → (pos 0 ≤ℤ usedAt ps t k) × (usedAt ps t k ≤ℤ pos mostUsage)
   used-small k h = go (during (fromOf ps k) (untilOf ps k) t)
     where
-      go : (b : Bool) → (pos 0 ≤ℤ cond b (usageOf ps k) (pos 0)) × (cond b (usageOf ps k) (pos 0) ≤ℤ pos 1000000)
+      go : (b : Bool) → (pos 0 ≤ℤ cond b (usageOf ps k) (pos 0)) × (cond b (usageOf ps k) (pos 0) ≤ℤ pos mostUsage)
       go true = sized .usages k h
       go false = (omega (arith, zz), omega (arith, zz))
 
-  pub load-small : (n : ℕ) → n ≤ 16 → (pos 0 ≤ℤ load ps t n) × (load ps t n ≤ℤ pos (n * 1000000))
+  pub load-small : (n : ℕ) → n ≤ mostParts → (pos 0 ≤ℤ load ps t n) × (load ps t n ≤ℤ pos (n * 1000000))
   unfolding load
   load-small zero h = (omega (arith, zz), omega (arith, zz))
   load-small (suc n) h =

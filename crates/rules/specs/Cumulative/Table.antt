@@ -9,6 +9,7 @@ use lib.Dec.{eqb}
 use lib.IntN.{ℤ, pos, negsuc, _+ℤ_, _-ℤ_}
 use lib.ListN.{length, getD}
 use lib.Signed.{_≤ℤ_, leZ, ltZ}
+use Rattle.meaning.specs.Limits.{mostUsage, mostDuration, mostParts}
 use Rattle.meaning.specs.Rule.{during}
 
 abbrev pub fromOf : List ℤ → ℕ → ℤ
@@ -66,22 +67,22 @@ leap ps peaks n c i s lasts =
 -- ---- the words are small, so that no sum of them overflows
 pub record Sized (ps : List ℤ) : Type 0 where
   pub long : length ps ≡ 48
-  pub starts : (k : ℕ) → k < 16 → (negsuc 99999 ≤ℤ fromOf ps k) × (fromOf ps k ≤ℤ pos 100000)
-  pub ends : (k : ℕ) → k < 16 → (negsuc 99999 ≤ℤ untilOf ps k) × (untilOf ps k ≤ℤ pos 110000)
-  pub usages : (k : ℕ) → k < 16 → (pos 0 ≤ℤ usageOf ps k) × (usageOf ps k ≤ℤ pos 1000000)
+  pub starts : (k : ℕ) → k < mostParts → (negsuc 99999 ≤ℤ fromOf ps k) × (fromOf ps k ≤ℤ pos 100000)
+  pub ends : (k : ℕ) → k < mostParts → (negsuc 99999 ≤ℤ untilOf ps k) × (untilOf ps k ≤ℤ pos 110000)
+  pub usages : (k : ℕ) → k < mostParts → (pos 0 ≤ℤ usageOf ps k) × (usageOf ps k ≤ℤ pos mostUsage)
 
 -- the table of what is surely in use just before each end
 pub record Loads (peaks : List ℤ) : Type 0 where
   pub long : length peaks ≡ 16
-  pub small : (k : ℕ) → k < 16 → (pos 0 ≤ℤ getD peaks k (pos 0)) × (getD peaks k (pos 0) ≤ℤ pos 16000000)
+  pub small : (k : ℕ) → k < mostParts → (pos 0 ≤ℤ getD peaks k (pos 0)) × (getD peaks k (pos 0) ≤ℤ pos 16000000)
 
 pub record Capacity (c : ℤ) : Type 0 where
   pub signless : pos 0 ≤ℤ c
-  pub upto : c ≤ℤ pos 1000000
+  pub upto : c ≤ℤ pos mostUsage
 
 -- a start, and how long the activity lasts
 pub record Start (s lasts : ℤ) : Type 0 where
   pub from : negsuc 99999 ≤ℤ s
   pub upto : s ≤ℤ pos 100000
   pub some : pos 0 ≤ℤ lasts
-  pub short : lasts ≤ℤ pos 10000
+  pub short : lasts ≤ℤ pos mostDuration

@@ -10,17 +10,18 @@ use lib.IntN.{ℤ, pos, negsuc, natAbs, _-ℤ_}
 use lib.ListN.{length, getD, set, length-set, replicate, length-replicate, getD-replicate}
 use lib.Seq.{getD-set-same, getD-set-other}
 use lib.Signed.{_≤ℤ_}
+use Rattle.meaning.specs.Limits.{mostValue, mostUsage, mostDuration, mostParts}
 use Rattle.words.specs.Int.{zz, abs-is}
 use Rattle.words.specs.Lists.{least, largest}
 use Rattle.words.specs.ListFacts.{tested}
 use Rattle.meaning.specs.Model.{Activity}
-use Rattle.meaning.specs.Proved.Jumps.{ending}
+use Rattle.rules.specs.Cumulative.Jumps.{ending}
 use Rattle.reading.specs.At.{Names}
 use Rattle.model.specs.Rows.{activityAt, ActivitiesIn}
 use Rattle.rules.specs.Ready as ready
-use Rattle.rules.specs.CumulativeTable.{fromOf, untilOf, usageOf, peak, Sized, Loads}
-use Rattle.rules.specs.CumulativeFacts.{load-small}
-use Rattle.rules.specs.CumulativeParts.{Part}
+use Rattle.rules.specs.Cumulative.Table.{fromOf, untilOf, usageOf, peak, Sized, Loads}
+use Rattle.rules.specs.Cumulative.Facts.{load-small}
+use Rattle.rules.specs.Cumulative.Parts.{Part}
 
 -- what holds at k, and at j where j is another place, holds at j
 same-or-other : (Q : ℕ → Type 0) (k j : ℕ) → Q k → (j ≢ k → Q j) → Q j
@@ -36,7 +37,7 @@ module _ (ps : List ℤ) (n : ℕ) (peaks : List ℤ) where
   pub peaked-none : Loads peaks → Peaked ps n 0 peaks
   peaked-none l = record { loads = l; each = λ j h. absurd (omega arith) }
 
-  pub peaked-more : Sized ps → n ≤ 16 → (k : ℕ) → k < 16 → Peaked ps n k peaks → Peaked ps n (k + 1) (set peaks k (peak ps n k))
+  pub peaked-more : Sized ps → n ≤ mostParts → (k : ℕ) → k < mostParts → Peaked ps n k peaks → Peaked ps n (k + 1) (set peaks k (peak ps n k))
   peaked-more sized few k h f =
       let long = f .loads .long in
       let l : k < length peaks = omega arith in
@@ -62,7 +63,7 @@ pub record Filled (d : ℕ → List ℤ) (m : List ℤ) (q k : ℕ) (ps : List �
   pub sized : Sized ps
   pub parts : (j : ℕ) → j < k → Part d (activityAt m (q + j * 3)) ps j
 
-module _ (ps : List ℤ) (k : ℕ) (a e u : ℤ) (here : k < 16) (long : length ps ≡ 48) where
+module _ (ps : List ℤ) (k : ℕ) (a e u : ℤ) (here : k < mostParts) (long : length ps ≡ 48) where
   abbrev put : List ℤ
   put = set (set (set ps k a) (k + 16) e) (k + 32) u
 
@@ -88,7 +89,7 @@ module _ (ps : List ℤ) (k : ℕ) (a e u : ℤ) (here : k < 16) (long : length 
   stays : (z : ℕ) → z ≢ k → z ≢ k + 16 → z ≢ k + 32 → getD put z (pos 0) ≡ getD ps z (pos 0)
   stays z x y w = getD-set-other two (k + 32) z u (pos 0) w ∙ getD-set-other one (k + 16) z e (pos 0) y ∙ getD-set-other ps k z a (pos 0) x
 
-  module _ (j : ℕ) (l : j < 16) (ne : j ≢ k) where
+  module _ (j : ℕ) (l : j < mostParts) (ne : j ≢ k) where
     from-other : fromOf put j ≡ fromOf ps j
     from-other = stays j ne (omega arith) (omega arith)
 
@@ -99,8 +100,8 @@ module _ (ps : List ℤ) (k : ℕ) (a e u : ℤ) (here : k < 16) (long : length 
     usage-other = stays (j + 32) (omega arith) (omega arith) (λ x. ne (omega arith))
 
 -- values of a box that is judged are small, and so are the least and the largest
-module _ (vs : List ℤ) (small : (v : ℤ) → In v vs → natAbs v ≤ 100000) where
-  in-range : (v : ℤ) → natAbs v ≤ 100000 → (negsuc 99999 ≤ℤ v) × (v ≤ℤ pos 100000)
+module _ (vs : List ℤ) (small : (v : ℤ) → In v vs → natAbs v ≤ mostValue) where
+  in-range : (v : ℤ) → natAbs v ≤ mostValue → (negsuc 99999 ≤ℤ v) × (v ≤ℤ pos 100000)
   in-range v h = (omega (arith, zz, abs-is v), omega (arith, zz, abs-is v))
 
   pub least-small : (negsuc 99999 ≤ℤ least vs) × (least vs ≤ℤ pos 100000)
@@ -113,8 +114,8 @@ module _ (vs : List ℤ) (small : (v : ℤ) → In v vs → natAbs v ≤ 100000)
 pub record ActivityIn (v : ℕ) (m : List ℤ) (p : ℕ) : Type 0 where
   pub inside : p + 2 < length m
   pub named : Names v m p
-  pub lasting : (pos 1 ≤ℤ getD m (p + 1) (pos 0)) × (getD m (p + 1) (pos 0) ≤ℤ pos 10000)
-  pub uses : (pos 0 ≤ℤ getD m (p + 2) (pos 0)) × (getD m (p + 2) (pos 0) ≤ℤ pos 1000000)
+  pub lasting : (pos 1 ≤ℤ getD m (p + 1) (pos 0)) × (getD m (p + 1) (pos 0) ≤ℤ pos mostDuration)
+  pub uses : (pos 0 ≤ℤ getD m (p + 2) (pos 0)) × (getD m (p + 2) (pos 0) ≤ℤ pos mostUsage)
 
 pub one-activity : {v n q : ℕ} {m : List ℤ} → ActivitiesIn v m q n → (i : ℕ) → i < n → ActivityIn v m (q + i * 3)
 one-activity {n} {q} {m} f i l = record { inside = omega (arith, f .fits); named = f .named i l; lasting = f .lasting i l; uses = f .uses i l }
@@ -124,7 +125,7 @@ pub signless : (z : ℤ) → pos 0 ≤ℤ z → pos (natAbs z) ≡ z
 signless (pos n) h = refl
 signless (negsuc n) h = absurd (h .le)
 
-module _ (d : ℕ → List ℤ) (small : (x : ℕ) (v : ℤ) → In v (d x) → natAbs v ≤ 100000) (v : ℕ) (m : List ℤ) (p : ℕ) (ok : ActivityIn v m p) where
+module _ (d : ℕ → List ℤ) (small : (x : ℕ) (v : ℤ) → In v (d x) → natAbs v ≤ mostValue) (v : ℕ) (m : List ℤ) (p : ℕ) (ok : ActivityIn v m p) where
   abbrev act : Activity
   act = activityAt m p
 
@@ -136,10 +137,10 @@ module _ (d : ℕ → List ℤ) (small : (x : ℕ) (v : ℤ) → In v (d x) → 
       let e = signless (getD m (p + 1) (pos 0)) (omega (arith, zz)) in
       (omega (arith, zz), omega (arith, zz))
 
-  usage-small : (pos 0 ≤ℤ pos (act .usage)) × (pos (act .usage) ≤ℤ pos 1000000)
+  usage-small : (pos 0 ≤ℤ pos (act .usage)) × (pos (act .usage) ≤ℤ pos mostUsage)
   usage-small = rw (signless (getD m (p + 2) (pos 0)) (ok .uses .0)) (ok .uses)
 
-  module _ (ps : List ℤ) (k : ℕ) (here : k < 16) (sized : Sized ps) where
+  module _ (ps : List ℤ) (k : ℕ) (here : k < mostParts) (sized : Sized ps) where
     abbrev after : List ℤ
     after = partPut d act k ps
 
@@ -150,13 +151,13 @@ module _ (d : ℕ → List ℤ) (small : (x : ℕ) (v : ℤ) → In v (d x) → 
           long = put-long ps k _ _ _ here l;
           starts = λ j b. same-or-other (λ z. (negsuc 99999 ≤ℤ fromOf after z) × (fromOf after z ≤ℤ pos 100000)) k j (rw (from-same ps k _ _ _ here l) (largest-small (d (act .start)) (small (act .start)))) (λ ne. rw (from-other ps k _ _ _ here l j b ne) (sized .starts j b));
           ends = λ j b. same-or-other (λ z. (negsuc 99999 ≤ℤ untilOf after z) × (untilOf after z ≤ℤ pos 110000)) k j (rw (until-same ps k _ _ _ here l) ending-small) (λ ne. rw (until-other ps k _ _ _ here l j b ne) (sized .ends j b));
-          usages = λ j b. same-or-other (λ z. (pos 0 ≤ℤ usageOf after z) × (usageOf after z ≤ℤ pos 1000000)) k j (rw (usage-same ps k _ _ _ here l) usage-small) (λ ne. rw (usage-other ps k _ _ _ here l j b ne) (sized .usages j b));
+          usages = λ j b. same-or-other (λ z. (pos 0 ≤ℤ usageOf after z) × (usageOf after z ≤ℤ pos mostUsage)) k j (rw (usage-same ps k _ _ _ here l) usage-small) (λ ne. rw (usage-other ps k _ _ _ here l j b ne) (sized .usages j b));
         }
 
     pub put-here : Part d act after k
     put-here = record { from-is = from-same ps k _ _ _ here (sized .long); until-is = until-same ps k _ _ _ here (sized .long); usage-is = usage-same ps k _ _ _ here (sized .long) }
 
-    pub put-there : (b : Activity) (j : ℕ) → j < 16 → j ≢ k → Part d b ps j → Part d b after j
+    pub put-there : (b : Activity) (j : ℕ) → j < mostParts → j ≢ k → Part d b ps j → Part d b after j
     put-there b j l ne f = record { from-is = from-other ps k _ _ _ here (sized .long) j l ne ∙ f .from-is; until-is = until-other ps k _ _ _ here (sized .long) j l ne ∙ f .until-is; usage-is = usage-other ps k _ _ _ here (sized .long) j l ne ∙ f .usage-is }
 
 -- one activity more
@@ -164,11 +165,11 @@ module _ (d : ℕ → List ℤ) (m : List ℤ) (q : ℕ) (ps : List ℤ) where
   pub filled-none : Sized ps → Filled d m q 0 ps
   filled-none s = record { sized = s; parts = λ j h. absurd (omega arith) }
 
-  pub filled-more : ((x : ℕ) (v : ℤ) → In v (d x) → natAbs v ≤ 100000) → {v n : ℕ} → ActivitiesIn v m q n → n ≤ 16 → (k : ℕ) → k < n → Filled d m q k ps → Filled d m q (k + 1) (partPut d (activityAt m (q + k * 3)) k ps)
+  pub filled-more : ((x : ℕ) (v : ℤ) → In v (d x) → natAbs v ≤ mostValue) → {v n : ℕ} → ActivitiesIn v m q n → n ≤ mostParts → (k : ℕ) → k < n → Filled d m q k ps → Filled d m q (k + 1) (partPut d (activityAt m (q + k * 3)) k ps)
   filled-more small {v} {n} ok few k l f =
       let at = q + k * 3 in
       let one = one-activity ok k l in
-      let b : k < 16 = omega arith in
+      let b : k < mostParts = omega arith in
       record {
         sized = put-sized d small v m at one ps k b (f .sized);
         parts = λ j h. same-or-other (λ z. Part d (activityAt m (q + z * 3)) (partPut d (activityAt m at) k ps) z) k j (put-here d small v m at one ps k b (f .sized)) (λ ne. put-there d small v m at one ps k b (f .sized) (activityAt m (q + j * 3)) j (omega arith) ne (f .parts j (omega (arith, ne))));

@@ -13,7 +13,7 @@ use lib.Signed.{_≤ℤ_, _<ℤ_, leZ, ltZ, ≤ℤ-refl}
 use Rattle.words.specs.Int.{zz}
 use Rattle.words.specs.ListFacts.{tested, clash, and-true, and-both, of-lt, of-le}
 use Rattle.meaning.specs.Proved.Below.{up-to}
-use Rattle.rules.specs.CumulativeTable.{untilOf, overBy, nearer, nextEnd, later, lastBad}
+use Rattle.rules.specs.Cumulative.Table.{untilOf, overBy, nearer, nextEnd, later, lastBad}
 
 -- ---- the first end after t of another activity, u at most
 module _ (ps : List ℤ) (i : ℕ) (t : ℤ) where

@@ -13,11 +13,11 @@ use Rattle.words.specs.Int.{zz, nlt-read}
 use Rattle.words.specs.Lists.{least, isEmpty}
 use Rattle.words.specs.ListFacts.{Rising, clash, least-in, largest-above, lt-or-not}
 use Rattle.meaning.specs.Model.{Activity}
-use Rattle.meaning.specs.Proved.Jumps.{Passed, passed-none, passed-gap, passed-all, stopped}
+use Rattle.rules.specs.Cumulative.Jumps.{Passed, passed-none, passed-gap, passed-all, stopped}
 use Rattle.meaning.specs.Proved.Positions.{othersOf, squeezedAt}
 use Rattle.domain.specs.Sets.{firstFrom, first-from-in, first-from-least, none-from-left}
-use Rattle.rules.specs.CumulativeTable.{fromOf, leap}
-use Rattle.rules.specs.CumulativeLeaps.{Tables, Leapt, free, onward, leapt}
+use Rattle.rules.specs.Cumulative.Table.{fromOf, leap}
+use Rattle.rules.specs.Cumulative.Leaps.{Tables, Leapt, free, onward, leapt}
 
 -- s is a start left, and all before it are blocked
 pub record Searching (d : ℕ → List ℤ) (c : ℕ) (nobody : Activity) (acts : List Activity) (i : ℕ) (s : ℤ) : Type 0 where

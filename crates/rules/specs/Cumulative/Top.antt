@@ -12,6 +12,7 @@ use lib.Dec.{ltb}
 use lib.IntN.{ℤ, pos, _+ℤ_, _-ℤ_}
 use lib.ListN.{getD}
 use lib.Signed.{_≤ℤ_, _<ℤ_, leZ}
+use Rattle.meaning.specs.Limits.{mostParts}
 use Rattle.words.specs.Int.{zz}
 use Rattle.words.specs.Words.{maxZ}
 use Rattle.words.specs.ListFacts.{Rising, tested, last-of, le-total, lt-or-not, in-at, all-at, before-le, before-lt}
@@ -19,11 +20,11 @@ use Rattle.meaning.specs.Model.{Activity}
 use Rattle.meaning.specs.Rule.{surely, sure, overloaded, blockedFrom}
 use Rattle.meaning.specs.Proved.Below.{up-to}
 use Rattle.meaning.specs.Proved.Loads.{sure-some, overloaded-by, Blocked, blocked-of}
-use Rattle.meaning.specs.Proved.Jumps.{ending, sure-rises}
+use Rattle.rules.specs.Cumulative.Jumps.{ending, sure-rises}
 use Rattle.meaning.specs.Proved.Positions.{othersOf, sum-others, squeezedAt}
-use Rattle.rules.specs.CumulativeTable.{untilOf, usageOf, Loads}
-use Rattle.rules.specs.CumulativeParts.{load-is}
-use Rattle.rules.specs.CumulativeLeaps.{Tables}
+use Rattle.rules.specs.Cumulative.Table.{untilOf, usageOf, Loads}
+use Rattle.rules.specs.Cumulative.Parts.{load-is}
+use Rattle.rules.specs.Cumulative.Leaps.{Tables}
 
 -- the largest of the first n, 0 at least
 unfoldable pub topOf : List ℤ → ℕ → ℤ
@@ -73,7 +74,7 @@ module _ (peaks : List ℤ) where
       go : (t : ℤ) → Top n t → Top (suc n) (maxZ t at)
       go t f = ⊎-elim (λ h. rw h (higher t f h)) (λ h. rw h (lower t f h)) (tested (leZ t at))
 
-pub top-upto : (peaks : List ℤ) (n : ℕ) → Loads peaks → n ≤ 16 → topOf peaks n ≤ℤ pos 16000000
+pub top-upto : (peaks : List ℤ) (n : ℕ) → Loads peaks → n ≤ mostParts → topOf peaks n ≤ℤ pos 16000000
 top-upto peaks n small few = ⊎-elim (λ e. omega (arith, zz)) (λ g. let (k, l, e) = g in rw e (small .small k (omega arith) .1)) (top-is peaks n .one)
 
 module _ (d : ℕ → List ℤ) (rising : (x : ℕ) → Rising (d x)) (nobody : Activity) (acts : List Activity) (n : ℕ) (ps peaks : List ℤ) (tables : Tables d nobody acts n ps peaks) where

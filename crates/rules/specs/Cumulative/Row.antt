@@ -9,6 +9,7 @@ use native.Mathlib.Omega.{arith}
 use lib.IntN.{ℤ, pos, _+ℤ_, _-ℤ_}
 use lib.ListN.{length, getD}
 use lib.Signed.{_≤ℤ_, _<ℤ_}
+use Rattle.meaning.specs.Limits.{mostUsage}
 use Rattle.words.specs.Int.{zz, sum, neg, abs-is}
 use Rattle.words.specs.Lists.{least}
 use Rattle.words.specs.ListFacts.{largest-above, or-left}
@@ -22,11 +23,11 @@ use Rattle.model.specs.Rows.{activityAt, Counted, ActivitiesIn}
 use Rattle.domain.specs.Box.{variables, values, values-rising}
 use Rattle.domain.specs.Sets.{firstFrom}
 use Rattle.rules.specs.Ready.{Ready}
-use Rattle.rules.specs.CumulativeTable.{fromOf, untilOf, usageOf, leap, Start}
-use Rattle.rules.specs.CumulativeLeaps.{Tables}
-use Rattle.rules.specs.CumulativeTop.{topOf, top-is, top-upto, top-overload, top-fits}
-use Rattle.rules.specs.CumulativeFill.{Filled, Peaked, ActivityIn, one-activity, signless}
-use Rattle.rules.specs.CumulativeSearch.{Searching, search-start, search-free, search-beyond, search-none, search-on}
+use Rattle.rules.specs.Cumulative.Table.{fromOf, untilOf, usageOf, leap, Start}
+use Rattle.rules.specs.Cumulative.Leaps.{Tables}
+use Rattle.rules.specs.Cumulative.Top.{topOf, top-is, top-upto, top-overload, top-fits}
+use Rattle.rules.specs.Cumulative.Fill.{Filled, Peaked, ActivityIn, one-activity, signless}
+use Rattle.rules.specs.Cumulative.Search.{Searching, search-start, search-free, search-beyond, search-none, search-on}
 
 abbrev pub activities : List ℤ → ℕ → List Activity
 activities m p = eachAt activityAt 3 (natAt m p) m (p + 2)
@@ -43,7 +44,7 @@ squeezes d m p i = squeezedAt d (natAt m (p + 1)) nobody (activities m p) i
 pub record CumulativeIn (v : ℕ) (m : List ℤ) (p : ℕ) : Type 0 where
   pub counted : Counted 1 m p
   pub inside : p + 1 < length m
-  pub capacity : (pos 0 ≤ℤ getD m (p + 1) (pos 0)) × (getD m (p + 1) (pos 0) ≤ℤ pos 1000000)
+  pub capacity : (pos 0 ≤ℤ getD m (p + 1) (pos 0)) × (getD m (p + 1) (pos 0) ≤ℤ pos mostUsage)
   pub each : ActivitiesIn v m (p + 2) (natAt m p)
 
 -- the row, the box, and the tables made of them

@@ -11,22 +11,23 @@ use lib.IntN.{ℤ, pos, negsuc, natAbs, _+ℤ_}
 use mir.Syntax.{w32}
 use mir.Val.{SFits}
 use borrow.Author.Tests.{lt-ltb, le-ltb}
+use Rattle.meaning.specs.Limits.{mostValue}
 use Rattle.words.specs.Int.{zz, abs-is, abs-sum, abs-fits}
 use Rattle.meaning.specs.Rule.{once, union, crowded}
-use Rattle.rules.specs.Distinct.{many, many-all, many-none, many-one-more}
-use Rattle.rules.specs.Soonest.{Soonest, nothing, this}
+use Rattle.rules.specs.AllDifferent.Distinct.{many, many-all, many-none, many-one-more}
+use Rattle.rules.specs.AllDifferent.Soonest.{Soonest, nothing, this}
 
-module _ (d : ℕ → List ℤ) (small : (x : ℕ) (v : ℤ) → In v (d x) → natAbs v ≤ 100000) where
-  pub union-small : (xs : List ℕ) (v : ℤ) → In v (union d xs) → natAbs v ≤ 100000
+module _ (d : ℕ → List ℤ) (small : (x : ℕ) (v : ℤ) → In v (d x) → natAbs v ≤ mostValue) where
+  pub union-small : (xs : List ℕ) (v : ℤ) → In v (union d xs) → natAbs v ≤ mostValue
   union-small [] v i = absurd (not-in-nil i)
   union-small (x ∷ xs) v i = ⊎-elim (λ j. small x v j) (λ j. union-small xs v j) (in-either (d x) i)
 
   -- the value that was found is small too
-  pub soonest-small : (xs : List ℕ) {from v : ℤ} → Soonest from (union d xs) (some v) → natAbs v ≤ 100000
+  pub soonest-small : (xs : List ℕ) {from v : ℤ} → Soonest from (union d xs) (some v) → natAbs v ≤ mostValue
   soonest-small xs {v = v} (this i l h) = union-small xs v i
 
 -- so the number after it fits a word
-pub after-fits : (v : ℤ) → natAbs v ≤ 100000 → SFits w32 (v +ℤ pos 1)
+pub after-fits : (v : ℤ) → natAbs v ≤ mostValue → SFits w32 (v +ℤ pos 1)
 after-fits v h = abs-fits (v +ℤ pos 1) (omega (arith, abs-sum v (pos 1)))
 
 module _ (d : ℕ → List ℤ) (xs : List ℕ) where
@@ -34,7 +35,7 @@ module _ (d : ℕ → List ℤ) (xs : List ℕ) where
   abbrev pub SoFar : ℤ → ℕ → Type 0
   SoFar from found = length (once (union d xs)) ≡ found + many from (union d xs)
 
-  pub count-start : ((x : ℕ) (v : ℤ) → In v (d x) → natAbs v ≤ 100000) → SoFar (negsuc 99999) 0
+  pub count-start : ((x : ℕ) (v : ℤ) → In v (d x) → natAbs v ≤ mostValue) → SoFar (negsuc 99999) 0
   count-start small = let e = many-all (negsuc 99999) (union d xs) (λ v i. let h = union-small d small xs v i in omega (arith, zz, abs-is v)) in omega arith
 
   pub count-next : {from v : ℤ} (found : ℕ) → Soonest from (union d xs) (some v) → SoFar from found → SoFar (v +ℤ pos 1) (found + 1)

@@ -14,9 +14,9 @@ use Rattle.words.specs.Lists.{sumOf, largest}
 use Rattle.words.specs.ListFacts.{same-test, sum-part}
 use Rattle.meaning.specs.Model.{Activity}
 use Rattle.meaning.specs.Rule.{during, usageIf, surely, sure}
-use Rattle.meaning.specs.Proved.Jumps.{ending, bad}
+use Rattle.rules.specs.Cumulative.Jumps.{ending, bad}
 use Rattle.meaning.specs.Proved.Positions.{othersOf, sum-others}
-use Rattle.rules.specs.CumulativeTable.{fromOf, untilOf, usageOf, usedAt, load, over}
+use Rattle.rules.specs.Cumulative.Table.{fromOf, untilOf, usageOf, usedAt, load, over}
 
 -- place k of the table holds the sure part of the activity j
 pub record Part (d : ℕ → List ℤ) (j : Activity) (ps : List ℤ) (k : ℕ) : Type 0 where
