@@ -3,19 +3,18 @@ use Prim.Native.Nat.{ℕ, _+_, _≤_, _<_}
 use mathlib.Core.Path.{_≡_, refl, sym, subst, _∙_}
 use mathlib.Core.Bool.{Bool, true, false, _&&_, _||_}
 use mathlib.Core.Logic.{_⊎_, inl, inr, ⊎-elim}
-use mathlib.Core.List.{List, [], _∷_, List·Memᴰ as In}
+use mathlib.Core.List.{List, List·Memᴰ as In}
 use native.Mathlib.Omega.{arith}
 use lib.Dec.{ltb}
-use lib.ListN.{length}
 use lib.IntN.{ℤ, pos, _+ℤ_, _-ℤ_}
 use lib.Signed.{_≤ℤ_, _<ℤ_, leZ, ltZ, ≤ℤ-refl}
 use borrow.Author.Tests.{ltb-true, lt-ltb}
 use Rattle.words.specs.Int.{zz, nlt-read}
-use Rattle.words.specs.Lists.{any, all, sumOf, least, largest}
-use Rattle.words.specs.ListFacts.{tested, and-both, or-cases, or-left, or-right, last-of, le-total, lt-or-not, before-lt, before-le, lt-of, of-lt, clash, same-test, any-found, any-holds, all-at, all-by, Rising, least-below, sum-le, sum-lt, and-true}
+use Rattle.words.specs.Lists.{any, all, least}
+use Rattle.words.specs.ListFacts.{tested, and-both, or-cases, or-left, or-right, last-of, le-total, lt-or-not, before-lt, before-le, clash, same-test, any-found, any-holds, all-at, all-by, Rising, least-below, sum-le, and-true}
 use Rattle.meaning.specs.Model.{Activity}
-use Rattle.meaning.specs.Rule.{surely, sure, blockedFrom, overloaded}
-use Rattle.meaning.specs.Proved.Loads.{during-of, of-during, Covers, Surely, surely-yes, surely-is, surely-most, Bad, Blocked, blocked-of, blocked-by, sure-some, overload-of, overloaded-by}
+use Rattle.meaning.specs.Rule.{surely, sure, blockedFrom}
+use Rattle.meaning.specs.Proved.Loads.{during-of, of-during, Covers, Surely, surely-yes, surely-most, Bad, Blocked, blocked-of, blocked-by}
 
 module _ (d : ℕ → List ℤ) where
   -- where the sure part of an activity ends, if it has one
@@ -33,26 +32,6 @@ module _ (d : ℕ → List ℤ) where
   -- sure usage falls only where a sure part ends
   pub sure-rises : (t u : ℤ) (js : List Activity) → t ≤ℤ u → Unended t u js → sure d t js ≤ sure d u js
   sure-rises t u js h f = sure-most t u js (λ j m g. record { from = omega (arith, zz, g .from); until = f j m (g .until) })
-
-  -- ---- an overload shows at the largest start left of some activity
-  module _ (c : ℕ) (acts : List Activity) where
-    surely-or-not : (t : ℤ) (j : Activity) → Surely d t j ⊎ (Surely d t j → ⊥)
-    surely-or-not t j = ⊎-elim (λ h. inl h) (λ n. inr (n .0)) (surely-is d t j)
-
-    pub load-at-start : (t : ℤ) → c < sure d t acts → (j : Activity) × In j acts × (c < sure d (largest (d (j .start))) acts)
-    load-at-start t h =
-        ⊎-elim (λ q. let (j, m, s, f) = q in (j, m, omega (arith, sure-most t (largest (d (j .start))) acts (λ k n g. record { from = f k n g; until = omega (arith, zz, s .from, g .until) }))))
-        (λ n. absurd (let (j, m, s) = sure-some d t acts (omega arith) in n j m s))
-        (last-of (Surely d t) (surely-or-not t) (λ k j. largest (d (k .start)) ≤ℤ largest (d (j .start)))
-        (λ k j. le-total (largest (d (k .start))) (largest (d (j .start)))) (λ k j i p q. omega (arith, zz)) acts)
-
-    pub overloaded-at-starts : ((x : ℕ) → Rising (d x)) → overloaded d c acts ≡ any (λ j. ltb c (sure d (largest (d (j .start))) acts)) acts
-    overloaded-at-starts rising = same-test (overloaded d c acts) (any starts acts)
-        (λ h. let (t, e) = overload-of d c acts h in let (j, m, f) = load-at-start t e in any-holds starts m (lt-ltb c (sure d (largest (d (j .start))) acts) f))
-        (λ h. let (j, m, e) = any-found starts acts h in overloaded-by d rising c acts (largest (d (j .start))) (ltb-true c (sure d (largest (d (j .start))) acts) e))
-      where
-        starts : Activity → Bool
-        starts j = ltb c (sure d (largest (d (j .start))) acts)
 
   -- ---- jumps: activity j, whose usage and the sure usage of the others are held against the capacity c
   module _ (c : ℕ) (j : Activity) (others : List Activity) where
@@ -154,47 +133,9 @@ module _ (d : ℕ → List ℤ) where
     pub passed-jump : (s t u : ℤ) → Passed s → Covers s t j → Bad d c j others t → ((k : Activity) → In k others → t <ℤ ending k → u ≤ℤ ending k) → Passed u
     passed-jump s t u f cover b g v m h = ⊎-elim (λ l. f v m l) (λ n. jump s t v cover b (omega (arith, zz, nlt-read {a = v} {b = s} n)) (λ k q l. omega (arith, zz, h, g k q l))) (lt-or-not v s)
 
-    -- where no sure part ends after it, it passes all
-    pub passed-rest : (s t : ℤ) → Passed s → Covers s t j → Bad d c j others t → ((k : Activity) → In k others → ending k ≤ℤ t) → (v : ℤ) → In v (d (j .start)) → Blocked d c j others v
-    passed-rest s t f cover b g v m = ⊎-elim (λ l. f v m l) (λ n. jump s t v cover b (omega (arith, zz, nlt-read {a = v} {b = s} n)) (λ k q l. absurd (let e = g k q in omega (arith, zz)))) (lt-or-not v s)
-
     pub passed-all : ((v : ℤ) → In v (d (j .start)) → Blocked d c j others v) → all (blockedFrom d c j others) (d (j .start)) ≡ true
     passed-all f = all-by (blockedFrom d c j others) (d (j .start)) (λ v m. blocked-by d c j others v (f v m))
 
     -- a start left that no try blocks
     pub stopped : (s : ℤ) → In s (d (j .start)) → tried s ≡ false → all (blockedFrom d c j others) (d (j .start)) ≡ false
     stopped s m h = ⊎-elim (λ e. absurd (clash (sym (blocked-is-tried s) ∙ all-at (blockedFrom d c j others) e m) h)) (λ e. e) (tested (all (blockedFrom d c j others) (d (j .start))))
-
-  -- ---- at most as many jumps as sure parts end after s
-  abbrev isAhead : ℤ → Activity → ℕ
-  isAhead s k = elim (ltZ s (ending k)) [ true ↦ 1 | false ↦ 0 ]
-
-  abbrev pub ahead : ℤ → List Activity → ℕ
-  ahead s = sumOf (isAhead s)
-
-  ahead-one : (s : ℤ) (k : Activity) → ltZ s (ending k) ≡ true → isAhead s k ≡ 1
-  ahead-one s k h = rw (h, isAhead)
-
-  ahead-none : (s : ℤ) (k : Activity) → ltZ s (ending k) ≡ false → isAhead s k ≡ 0
-  ahead-none s k h = rw (h, isAhead)
-
-  isAhead-le : (s u : ℤ) → s ≤ℤ u → (k : Activity) → isAhead u k ≤ isAhead s k
-  isAhead-le s u h k = go (tested (ltZ u (ending k)))
-    where
-      go : (ltZ u (ending k) ≡ true) ⊎ (ltZ u (ending k) ≡ false) → isAhead u k ≤ isAhead s k
-      go (inl e) = let l = lt-of u (ending k) e in omega (arith, ahead-one u k e, ahead-one s k (omega (arith, zz)))
-      go (inr e) = omega (arith, ahead-none u k e)
-
-  pub ahead-le : (s u : ℤ) (js : List Activity) → s ≤ℤ u → ahead u js ≤ ahead s js
-  ahead-le s u js h = sum-le (isAhead u) (isAhead s) js (λ k m. isAhead-le s u h k)
-
-  pub ahead-falls : (s : ℤ) (k : Activity) (js : List Activity) → In k js → s <ℤ ending k → ahead (ending k) js < ahead s js
-  ahead-falls s k js m h = sum-lt (isAhead (ending k)) (isAhead s) (λ i n. isAhead-le s (ending k) (omega (arith, zz)) i) m (omega (arith, ahead-one s k (of-lt h), ahead-none (ending k) k (omega (arith, zz))))
-
-  pub ahead-length : (s : ℤ) (js : List Activity) → ahead s js ≤ length js
-  ahead-length s [] = omega arith
-  ahead-length s (k ∷ js) = omega (arith, one (tested (ltZ s (ending k))), ahead-length s js)
-    where
-      one : (ltZ s (ending k) ≡ true) ⊎ (ltZ s (ending k) ≡ false) → isAhead s k ≤ 1
-      one (inl e) = omega (arith, ahead-one s k e)
-      one (inr e) = omega (arith, ahead-none s k e)
