@@ -7,13 +7,20 @@ use mathlib.Core.List.{List}
 use native.Mathlib.Omega.{arith}
 use lib.Bits.{bitOr, or-lt}
 use lib.Pow.{pow-lt}
+use lib.IntN.{ℤ, pos}
 use lib.ListN.{length, getD, set}
 use lib.Seq.{getD-set-same, getD-set-other}
 use borrow.Author.Count.{below-more}
 use borrow.Author.Tests.{eqb-true}
+use Rattle.words.specs.Int.{eqZ}
+use Rattle.words.specs.Lists.{member}
 use Rattle.words.specs.ListFacts.{clash, or-left, or-right, or-cases}
 use Rattle.meaning.specs.Proved.Below.{up-to}
 use Rattle.rules.specs.Circuit.Mask.{bit, Mask, bit-or, bit-power, or-more}
+
+-- a value left at position i names position j
+abbrev pub names : (ℕ → List ℤ) → List ℕ → ℕ → ℕ → Bool
+names d xs i j = member eqZ (pos j) (d (getD xs i 0))
 
 -- where each position leads, as the test that a table of masks makes
 abbrev pub leads : List ℕ → ℕ → ℕ → Bool

@@ -3,19 +3,18 @@ use Prim.Native.Nat.{ℕ, zero, suc, _-_, _^_, _≤_, _<_}
 use mathlib.Core.Path.{_≡_, refl, sym, ap, subst, _∙_}
 use mathlib.Core.Bool.{Bool, true, false, not}
 use mathlib.Core.Logic.{_⊎_, ⊎-elim}
-use mathlib.Core.List.{List, [], _∷_}
+use mathlib.Core.List.{List, [], _∷_, List·Memᴰ as In}
 use native.Mathlib.Omega.{arith}
-use lib.ListN.{length}
-use lib.IntN.{ℤ}
+use lib.ListN.{length, getD}
+use lib.IntN.{ℤ, pos}
 use lib.Dec.{ltb}
 use borrow.Author.Tests.{ltb-true, ltb-false, not-true}
-use Rattle.words.specs.ListFacts.{clash, tested, same-test, is-true}
+use Rattle.words.specs.ListFacts.{clash, tested, same-test, is-true, member-in, in-member}
 use Rattle.meaning.specs.Rule.{holds, trapped}
-use Rattle.meaning.specs.Proved.Flags.{all-set, not-all-set}
-use Rattle.meaning.specs.Proved.Reach.{reach, reach-length, reach-self, reach-kept, reach-least}
-use Rattle.meaning.specs.Proved.Trapped.{names, reachesAll, trapped-if, trapped-from}
+use Rattle.meaning.specs.Proved.Tour.{trap-of, inside-at}
+use Rattle.meaning.specs.Proved.Trapped.{trapped-by, inside-by}
 use Rattle.rules.specs.Circuit.Mask.{bit, full-bit, not-full}
-use Rattle.rules.specs.Circuit.Reach.{leads, Links, Closed, Reached}
+use Rattle.rules.specs.Circuit.Reach.{names, leads, Links, Closed, Reached}
 
 -- ---- a test below n as a list of flags
 abbrev flags : (ℕ → Bool) → ℕ → List Bool
@@ -26,6 +25,10 @@ flags-at : (t : ℕ → Bool) (n k : ℕ) → k < n → holds k (flags t n) ≡ 
 flags-at t zero k h = absurd (omega arith)
 flags-at t (suc n) zero h = refl
 flags-at t (suc n) (suc k) h = flags-at (λ k. t (suc k)) n k (omega arith)
+
+flags-length : (t : ℕ → Bool) (n : ℕ) → length (flags t n) ≡ n
+flags-length t zero = refl
+flags-length t (suc n) = ap suc (flags-length (λ k. t (suc k)) n)
 
 -- the edges the other way round
 abbrev pub flip : (ℕ → ℕ → Bool) → ℕ → ℕ → Bool
@@ -106,29 +109,24 @@ module _ (edge : ℕ → ℕ → Bool) (n : ℕ) where
 module _ (d : ℕ → List ℤ) (xs : List ℕ) where
   trapped-split : {t : ℕ → Bool} → Split (names d xs) (length xs) t → trapped d xs ≡ true
   trapped-split {t} s =
+      let n = length xs in
       let (i, l, e) = s .insider in
       let (j, g, o) = s .outsider in
-      trapped-if d xs i l (⊎-elim (λ r. clash (reaches i l e j g r) o) (λ r. r) (tested (reachesAll d xs i)))
-    where
-      reaches : (i : ℕ) → i < length xs → t i ≡ true → (j : ℕ) → j < length xs → reachesAll d xs i ≡ true → t j ≡ true
-      reaches i l e j g r =
-          let n = length xs in
-          sym (flags-at t n j g) ∙ reach-least (names d xs) n i l (flags t n)
-          (λ a b p q h o. flags-at t n b q ∙ s .closed a b p q (sym (flags-at t n a p) ∙ h) o)
-          (flags-at t n i l ∙ e) j
-          (all-set (reach (names d xs) n i) r j (omega (arith, reach-length (names d xs) n i l)))
+      trapped-by d xs (flags t n) (record {
+        sized = flags-length t n;
+        insider = (i, l, flags-at t n i l ∙ e);
+        outsider = (j, g, flags-at t n j g ∙ o);
+        kept = λ a b h v m. inside-by n (flags t n) v (λ k c q. flags-at t n k c ∙ s .closed a k b c (sym (flags-at t n a b) ∙ h) (in-member (subst (λ w. In w (d (getD xs a 0))) q m)));
+      })
 
   split-trapped : trapped d xs ≡ true → (t : ℕ → Bool) × Split (names d xs) (length xs) t
   split-trapped h =
-      let n = length xs in
-      let (i, l, e) = trapped-from d xs h in
-      let s = reach (names d xs) n i in
-      let (j, g, o) = not-all-set s e in (
+      let (s, t) = trap-of d xs h in (
         λ k. holds k s,
         record {
-          closed = reach-kept (names d xs) n i l;
-          insider = (i, l, reach-self (names d xs) n i l);
-          outsider = (j, omega (arith, reach-length (names d xs) n i l), o);
+          closed = λ i j l g q o. inside-at (length xs) s j g (t .kept i l q (pos j) (member-in (pos j) (d (getD xs i 0)) o));
+          insider = t .insider;
+          outsider = t .outsider;
         },
       )
 

@@ -7,11 +7,10 @@ use lib.IntN.{pos}
 use lib.ListN.{length, length-set}
 use Rattle.words.specs.Int.{eqZ}
 use Rattle.words.specs.Lists.{member}
-use Rattle.meaning.specs.Proved.Trapped.{names}
 use Rattle.domain.specs.Box.{values}
 use Rattle.reading.specs.At.{natAt, eachAt, getD-each}
 use Rattle.rules.specs.Circuit.Mask.{Mask}
-use Rattle.rules.specs.Circuit.Reach.{Rows, rows-more}
+use Rattle.rules.specs.Circuit.Reach.{names, Rows, rows-more}
 use Rattle.rules.proofs.circuit.links_of.Statement.{statement}
 use Rattle.rules.proofs.circuit.links_of.Tie as tie
 
