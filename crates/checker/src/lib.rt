@@ -93,7 +93,7 @@ pub fn check(model: &[i32], log: &[i32], places: &mut [u32]) -> Answer
 }
 
 // How many rows are reported: in whole mode all.
-fn changed_rows(amended: Amended, rows: usize) -> u32
+fn rows_reported(amended: Amended, rows: usize) -> u32
     requires { ⌜ rows ≤ mostRows ⌝ }
     ensures { λ r. ⌜ r ≡ sizeBy (amended .whole) (amended .changed) rows ⌝ }
 {
@@ -125,7 +125,7 @@ pub fn recheck(old: &[i32], new: &[i32], log: &[i32], places: &mut [u32]) -> Rec
         changed: amended.changed,
     };
     let w = walk::walk(new, &row_starts, task, log, &mut *places, &mut cells);
-    let changed = changed_rows(amended, rows);
+    let changed = rows_reported(amended, rows);
     let answer = w.answer;
     Rechecked {
         answer,

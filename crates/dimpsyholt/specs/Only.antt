@@ -16,6 +16,9 @@ only-check p q = (p .answered ∙ sym (q .answered), p .noted ∙ sym (q .noted)
 pub only-recheck : {r r′ : DimpsyholtAnswer} {lent left left′ : List ℕ} {o : says.Rechecked} → RecheckTold r lent left o → RecheckTold r′ lent left′ o → (r ≡ r′) × (left ≡ left′)
 only-recheck p q = (p .answered ∙ sym (q .answered), p .noted ∙ sym (q .noted))
 
+pub only-version : {r r′ : ℕ} → r ≡ 10000 → r′ ≡ 10000 → r ≡ r′
+only-version p q = p ∙ sym q
+
 -- ---- the way back from the numbers
 
 -- conclusion 4 is "never below", 3 "no assignment"; the test is that it is 4

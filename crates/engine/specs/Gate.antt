@@ -2,7 +2,7 @@
 use Prim.Native.Nat.{ℕ, _≤_, _<_}
 use mathlib.Core.Path.{_≡_, refl, sym, ap, subst, _∙_}
 use mathlib.Core.Bool.{Bool}
-use mathlib.Core.Logic.{_⊎_, inl, inr}
+use mathlib.Core.Logic.{_↔_, _⊎_, inl, inr}
 use mathlib.Core.List.{List, []}
 use native.Mathlib.Omega.{arith}
 use lib.IntN.{ℤ}
@@ -11,10 +11,12 @@ use Rattle.meaning.specs.Model.{Model}
 use Rattle.meaning.specs.Log.{Step}
 use Rattle.meaning.specs.Judge.{rowAt}
 use Rattle.meaning.specs.Check as says
-use Rattle.meaning.specs.Claims.{Admitted, Concludes, Cited, SameVerdict}
+use Rattle.meaning.specs.Claims.{Admitted, Holds, Cited, SameVerdict}
+use Rattle.meaning.specs.Outcomes.{OnShut, Listed}
 use Rattle.meaning.specs.Meets.{Assignment, Solves}
-use Rattle.checker.specs.Written.{Earned, Judges, PassedAt, StartOf, FirstWords, RefusedAfter, ConcludedAfter, Written, WrittenAgain}
+use Rattle.checker.specs.Written.{Earned, Judges, PassedAt, ConcludedAfter, Written, WrittenAgain}
 use Rattle.checker.specs.Demands.{every, GoodTable}
+use Rattle.checker.specs.Demands as demands
 use Rattle.dimpsyholt.specs.Fields.{CheckTold, RecheckTold}
 use Rattle.dimpsyholt.specs.Only.{conclusionOf, meant}
 use Rattle.dimpsyholt.specs.Opens as promised
@@ -108,6 +110,14 @@ module _ (model log : List ℤ) (lent left : List ℕ) (a : DimpsyholtAnswer) (t
   pub steps-told : Written every says.accepted model log lent left (says.check model log (length lent) .judged) (meant a)
   steps-told = promised.places-written model log lent left a told
 
+  -- a refusal has a number of document 01's table, which is not 0, and the step and the position that belong to it
+  pub listed : OnShut (Listed (length model) (length log) (length lent)) (meant a) × (a .kind ≡ 0 → 1 ≤ a .number)
+  listed = (demands.refused-by-the-table model log lent left (meant a) (promised.of-check told), promised.check-numbered model log (length lent) told)
+
+  -- accepted exactly where the model is good, the sizes are right and the log shows the conclusion step by step
+  pub accepted-exactly : (c : says.Conclusion) → (meant a ≡ says.accepted c) ↔ ((m : Model) × Admitted model log (length lent) m × Holds m 0 0 [] log c)
+  accepted-exactly = demands.accepted-exactly model log lent left (meant a) (promised.of-check told)
+
 -- ---- the recheck
 module _ (old new log : List ℤ) (lent left : List ℕ) (a : DimpsyholtAnswer) (told : RecheckTold a lent left (says.recheck old new log (length lent))) where
   pub opens-again-so : (before behind : List ℕ) (was : DimpsyholtAnswer) → CheckTold was before behind (says.check old log (length before)) → OpensAgain was a → NoneLeftAgain old new log lent left
@@ -130,6 +140,9 @@ module _ (old new log : List ℤ) (lent left : List ℕ) (a : DimpsyholtAnswer) 
       let s = w .places .starts k below in
       let j = promised.again-judges old new log lent left a told in
       record { held = j .held; say = j .say; judges = j .judges; begins = record { of = w .of; words = length lent; admitted = w .admitted; behind = s .behind; is = subst (λ q. PassedAt (j .held (w .of)) (w .of) log k q (s .behind)) (sym is) (s .is) } }
+
+  pub listed-again : OnShut (Listed (length new) (length log) (length lent)) (meant a) × (a .kind ≡ 0 → 1 ≤ a .number)
+  listed-again = (demands.again-refused-by-the-table old new log lent left (meant a) (promised.of-recheck told), promised.recheck-numbered old new log (length lent) told)
 
   pub early-again-so : Early a → left ≡ lent
   early-again-so (kind, number) = promised.again-early-places old new log lent left a told kind number

@@ -27,8 +27,8 @@ walk-requires c κs =
     let w = way (c .before .before .before .before .before) in
     (w .planned, w .log-fits, omega (arith, w .log-fits, w .places-suffice), omega (arith, w .planned .few-variables))
 
-changed-rows-requires : tie.Need-changed-rows-requires
-changed-rows-requires c κs = way (c .before .before .before .before .before .before .before .before .before) .planned .few-rows
+rows-reported-requires : tie.Need-rows-reported-requires
+rows-reported-requires c κs = way (c .before .before .before .before .before .before .before .before .before) .planned .few-rows
 
 returns-2 : tie.Need-returns-2
 returns-2 c =
@@ -36,7 +36,7 @@ returns-2 c =
     let m = u .before .before .before .before in
     let k = m .before .before in
     let a = k .before .before .before .before .before .before .before .args in
-    rechecks-open (now (a .old)) (now (a .new)) (now (a .log)) (length (now (a .places))) (way k) (m .compare .result .whole) (m .compare .result .changed) _ (u .walk .result) _ _ (m .compare .ensures) (c .changed-rows .ensures) (u .walk .ensures)
+    rechecks-open (now (a .old)) (now (a .new)) (now (a .log)) (length (now (a .places))) (way k) (m .compare .result .whole) (m .compare .result .changed) _ (u .walk .result) _ _ (m .compare .ensures) (c .rows-reported .ensures) (u .walk .ensures)
 
 pub recheck-spec : {M : Type 1} → statement M
 recheck-spec =
@@ -53,6 +53,6 @@ recheck-spec =
     (λ c. search needs)
     (λ c. search needs)
     walk-requires
-    changed-rows-requires
+    rows-reported-requires
     (λ c. search needs)
     returns-2)
