@@ -100,15 +100,7 @@ fn one_step(
     if !held {
         return after_passing(step, held, next, log.len());
     }
-    let verdict = judging::judge(
-        model,
-        row_starts,
-        task.variables,
-        log,
-        passed,
-        step,
-        cells,
-    );
+    let verdict = judging::judge(model, row_starts, task.variables, log, passed, step, cells);
     match verdict {
         Verdict::Passes => after_passing(step, held, next, log.len()),
         Verdict::Fails(num, p) => Moved::Stops(num, p, held),
