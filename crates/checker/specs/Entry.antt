@@ -1,6 +1,6 @@
 -- What stands before the walk: the sizes in document 01's order, then the model.
 use Prim.Native.Nat.{ℕ, _≤_, _<_}
-use mathlib.Core.Path.{_≡_, refl, sym, ap, subst, subst₂, _∙_}
+use mathlib.Core.Path.{_≡_, refl, sym, ap, subst, _∙_}
 use mathlib.Core.Bool.{Bool, true, false}
 use mathlib.Core.List.{List}
 use native.Mathlib.Omega.{arith}
@@ -9,42 +9,30 @@ use lib.Dec.{ltb}
 use lib.IntN.{ℤ}
 use lib.ListN.{length}
 use Rattle.meaning.specs.Limits.{mostModelWords, mostLogWords, fewestPlaces, mostRows}
-use Rattle.meaning.specs.Read.{Got, got, refused}
 use Rattle.meaning.specs.Model.{Model, readModel}
 use Rattle.meaning.specs.Check.{Outcome, shutEarly, admitted, guarded, good, goodOf, readGood}
 use lib.Seq.{sets}
-use Rattle.model.specs.Laws.{Read}
 use Rattle.model.specs.Starts.{modelStarts}
-use Rattle.model.specs.Planned.{Planned, modelOf, planned}
-use Rattle.model.specs.declared.ModelAnswer.{ModelAnswer}
-use Rattle.model.specs.declared.ModelAnswer.the-variants as read
+use Rattle.model.specs.Planned.{Planned, modelOf, planned, Modelled, modelled, unread}
+use Rattle.reading.specs.Told.{Skims}
+use Rattle.reading.specs.declared.Past.{Past}
+use Rattle.reading.specs.declared.Past.the-variants as past
 use Rattle.checker.specs.declared.Answer.{Answer}
 use Rattle.checker.specs.declared.Answer.the-variants as answer
-use Rattle.checker.specs.declared.Entered.{Entered}
-use Rattle.checker.specs.declared.Entered.the-variants as entered
 
--- the refusal that an answer is, as an answer of another kind
-abbrev pub noModel : ModelAnswer → Entered
-noModel (read.Good v c) = entered.Refused 0 0
-noModel (read.Refused num p) = entered.Refused num p
+-- a refusal before the walk carries step 0
+abbrev pub refusalOf : ℕ → ℕ → Answer
+refusalOf num p = answer.Refused num 0 p
 
-abbrev pub RefusedIn : ℕ → ModelAnswer → Type 0
-RefusedIn n (read.Good v c) = Unit {0}
-RefusedIn n (read.Refused num p) = p ≤ n
+-- the first size that is wrong
+abbrev pub sizesBy : Bool → Bool → Bool → Past
+sizesBy true longLog fewPlaces = past.Refused 1 0
+sizesBy false true fewPlaces = past.Refused 2 0
+sizesBy false false true = past.Refused 3 0
+sizesBy false false false = past.Next 0
 
-abbrev pub refusalOf : Entered → Answer
-refusalOf (entered.Refused num p) = answer.Refused num 0 p
-refusalOf (entered.Open v c) = answer.Refused 0 0 0
-
--- the first size that is wrong, 0 where none is
-abbrev pub wrongSize : Bool → Bool → Bool → ℕ
-wrongSize true longLog fewPlaces = 1
-wrongSize false true fewPlaces = 2
-wrongSize false false true = 3
-wrongSize false false false = 0
-
-abbrev pub sizeFault : ℕ → ℕ → ℕ → ℕ
-sizeFault model log places = wrongSize (ltb mostModelWords model) (ltb mostLogWords log) (ltb places fewestPlaces)
+abbrev pub sizesOf : ℕ → ℕ → ℕ → Past
+sizesOf model log places = sizesBy (ltb mostModelWords model) (ltb mostLogWords log) (ltb places fewestPlaces)
 
 module _ (model log : List ℤ) (places : ℕ) where
   -- whatever is to be done with a good model, the check is shut
@@ -52,59 +40,59 @@ module _ (model log : List ℤ) (places : ℕ) where
   RefusedAt num p = (num ≤ 7) × ((next : Model → Outcome) → guarded model log places next ≡ shutEarly num p)
 
   pub record OpenTo (starts : List ℕ) (v c : ℕ) : Type 0 where
+    pub modelled : Modelled model
     pub planned : Planned model starts v c
     pub log-fits : length log ≤ mostLogWords
     pub places-suffice : fewestPlaces ≤ places
     pub is-good : readGood model ≡ good (modelOf model)
     pub on : (next : Model → Outcome) → guarded model log places next ≡ next (modelOf model)
 
-  abbrev pub Enters : List ℕ → Entered → Type 0
-  Enters starts (entered.Refused num p) = RefusedAt num p
-  Enters starts (entered.Open v c) = OpenTo starts v c
+  abbrev pub Enters : List ℕ → Past → Type 0
+  Enters starts (past.Refused num p) = RefusedAt num p × (p ≤ 65536)
+  Enters starts (past.Next n) = OpenTo starts (length (modelOf model .bounds)) (length (modelOf model .rows))
 
-  pub refused-by-size : (sizeFault (length model) (length log) places ≡ 0 → ⊥) → RefusedAt (sizeFault (length model) (length log) places) 0
-  refused-by-size h = go (ltb mostModelWords (length model)) (ltb mostLogWords (length log)) (ltb places fewestPlaces) h
+  pub refused-by-size : {r : Past} {num p : ℕ} → r ≡ sizesOf (length model) (length log) places → r ≡ past.Refused num p → RefusedAt num p × (p ≤ 65536)
+  refused-by-size e f = go (ltb mostModelWords (length model)) (ltb mostLogWords (length log)) (ltb places fewestPlaces) (sym e ∙ f)
     where
-      go : (a b c : Bool) → (wrongSize a b c ≡ 0 → ⊥) → (wrongSize a b c ≤ 7) × ((next : Model → Outcome) → admitted a b c (readModel 0 model) next ≡ shutEarly (wrongSize a b c) 0)
-      go true b c h = (omega arith, λ next. refl)
-      go false true c h = (omega arith, λ next. refl)
-      go false false true h = (omega arith, λ next. refl)
-      go false false false h = absurd (h refl)
+      go : {num p : ℕ} (a b c : Bool) → sizesBy a b c ≡ past.Refused num p → ((num ≤ 7) × ((next : Model → Outcome) → admitted a b c (readModel 0 model) next ≡ shutEarly num p)) × (p ≤ 65536)
+      go {num} {p} true b c e = let n : num ≡ 1 = cc in let q : p ≡ 0 = cc in ((omega arith, λ next. rw (n, q)), omega arith)
+      go {num} {p} false true c e = let n : num ≡ 2 = cc in let q : p ≡ 0 = cc in ((omega arith, λ next. rw (n, q)), omega arith)
+      go {num} {p} false false true e = let n : num ≡ 3 = cc in let q : p ≡ 0 = cc in ((omega arith, λ next. rw (n, q)), omega arith)
+      go false false false e = absurd (let z : _≡_ {A = ℕ} 0 1 = cc in omega arith)
 
   pub record SizesFit : Type 0 where
     pub model-fits : ltb mostModelWords (length model) ≡ false
     pub log-fits : ltb mostLogWords (length log) ≡ false
     pub places-suffice : ltb places fewestPlaces ≡ false
 
-  pub sizes-fit : sizeFault (length model) (length log) places ≡ 0 → SizesFit
-  sizes-fit h = go (ltb mostModelWords (length model)) refl (ltb mostLogWords (length log)) refl (ltb places fewestPlaces) refl h
+  pub sizes-fit : {r : Past} {n : ℕ} → r ≡ sizesOf (length model) (length log) places → r ≡ past.Next n → SizesFit
+  sizes-fit e f = go (ltb mostModelWords (length model)) refl (ltb mostLogWords (length log)) refl (ltb places fewestPlaces) refl (sym e ∙ f)
     where
-      go : (a : Bool) → ltb mostModelWords (length model) ≡ a → (b : Bool) → ltb mostLogWords (length log) ≡ b → (c : Bool) → ltb places fewestPlaces ≡ c → wrongSize a b c ≡ 0 → SizesFit
-      go true e b f c g h = absurd (omega arith)
-      go false e true f c g h = absurd (omega arith)
-      go false e false f true g h = absurd (omega arith)
+      go : {n : ℕ} (a : Bool) → ltb mostModelWords (length model) ≡ a → (b : Bool) → ltb mostLogWords (length log) ≡ b → (c : Bool) → ltb places fewestPlaces ≡ c → sizesBy a b c ≡ past.Next n → SizesFit
+      go true e b f c g h = absurd (let z : _≡_ {A = ℕ} 0 1 = cc in omega arith)
+      go false e true f c g h = absurd (let z : _≡_ {A = ℕ} 0 1 = cc in omega arith)
+      go false e false f true g h = absurd (let z : _≡_ {A = ℕ} 0 1 = cc in omega arith)
       go false e false f false g h = record { model-fits = e; log-fits = f; places-suffice = g }
 
   module _ (s : SizesFit) where
     fitting : (next : Model → Outcome) → guarded model log places next ≡ admitted false false false (readModel 0 model) next
     fitting next = rw (s .model-fits, s .log-fits, s .places-suffice)
 
-    pub refused-by-model : {num p : ℕ} → num ≤ 7 → readModel 0 model ≡ refused num p → RefusedAt num p
-    refused-by-model l e = (l, λ next. fitting next ∙ ap (λ g. admitted false false false g next) e)
-
-    pub open-to : (starts : List ℕ) (v c : ℕ) {m : Model} {n : ℕ} {ws : List ℤ} → readModel 0 model ≡ got m n ws → Planned model starts v c → OpenTo starts v c
-    open-to starts v c {m} {n} {ws} e p =
-        record {
-          planned = p;
-          log-fits = ltb-false mostLogWords (length log) (s .log-fits);
-          places-suffice = ltb-false places fewestPlaces (s .places-suffice);
-          is-good = ap (λ b. goodOf b (readModel 0 model)) (s .model-fits) ∙ rw e;
-          on = λ next. fitting next ∙ rw e;
-        }
+    short : length model ≤ 65536
+    short = omega (arith, ltb-false mostModelWords (length model) (s .model-fits))
 
     -- as the reading of the model leaves it
-    pub open-so : (l starts : List ℕ) (v c : ℕ) → Read model v c → starts ≡ sets l 0 (modelStarts model) → mostRows ≤ length l → OpenTo starts v c
-    open-so l starts v c r e h =
-        open-to starts v c (r .is)
-        (subst (λ x. Planned model x v c) (sym e)
-        (subst₂ (λ a b. Planned model (sets l 0 (modelStarts model)) a b) (r .variables) (r .rows) (planned model l (r .is) h)))
+    pub read-so : (l starts : List ℕ) (r : Past) → Skims readModel model 0 r → starts ≡ sets l 0 (modelStarts model) → mostRows ≤ length l → Enters starts r
+    read-so l starts (past.Refused num p) h e room =
+        let u = unread h refl in
+        ((u .number .1, λ next. fitting next ∙ ap (λ g. admitted false false false g next) (u .is)), omega (arith, u .inside, short))
+    read-so l starts (past.Next n) h e room =
+        let m = modelled h refl in
+        record {
+          modelled = m;
+          planned = subst (λ x. Planned model x (length (modelOf model .bounds)) (length (modelOf model .rows))) (sym e) (planned l m room);
+          log-fits = ltb-false mostLogWords (length log) (s .log-fits);
+          places-suffice = ltb-false places fewestPlaces (s .places-suffice);
+          is-good = ap (λ b. goodOf b (readModel 0 model)) (s .model-fits) ∙ rw (m .is);
+          on = λ next. fitting next ∙ rw (m .is);
+        }

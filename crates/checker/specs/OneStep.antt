@@ -1,6 +1,6 @@
 -- One step of the walk, case by case: what `advance` gives where the log ran out, could not be read, failed its rule or passed.
 use Prim.Native.Nat.{ℕ, suc, _+_, _≤_, _<_}
-use mathlib.Core.Path.{_≡_, refl, sym, ap, _∙_}
+use mathlib.Core.Path.{_≡_, refl, sym, ap, subst, _∙_}
 use mathlib.Core.Bool.{Bool, true, false, not}
 use mathlib.Core.List.{List, [], _∷_, map}
 use mathlib.Core.Logic.{⊎-elim}
@@ -23,11 +23,9 @@ use Rattle.meaning.specs.Log as logs
 use Rattle.meaning.specs.Judge as judge
 use Rattle.meaning.specs.Check as says
 use Rattle.meaning.specs.Check.{State, advance, afterReading, afterVerdict, counted, shutAt, stops, goes, verdictOf, readStep}
-use Rattle.steps.specs.Told.{stepOf, toldStep, StepPlaced}
-use Rattle.steps.specs.Laws.{PartsIn, Over, answer-in, made-in}
+use Rattle.steps.specs.Told.{stepOf, placed}
+use Rattle.steps.specs.Laws.{PartsIn, Stepped, Unread}
 use Rattle.steps.specs.Facts.{factOf, madeFact, MadeFrom}
-use Rattle.steps.specs.declared.StepAnswer.{StepAnswer}
-use Rattle.steps.specs.declared.StepAnswer.the-variants as read
 use Rattle.steps.specs.declared.Step.{Step}
 use Rattle.steps.specs.declared.Step.the-variants as step
 use Rattle.checker.specs.Told.{toldMoved, toldConclusion, afterPassing, concluded, heldBy, RowBelow}
@@ -90,22 +88,25 @@ pub record Reached (m : Model) (v c : ℕ) (log : List ℤ) (k at : ℕ) (t : St
   pub leads : (b : Bool) → LeadsTo v log at (afterPassing t b n (length log))
   pub hints-few : (facts : ℕ → Fact) {num p : ℕ} → judge.judge m facts (stepOf log t) ≡ judge.fails num p → p ≤ mostHints
 
--- v variables, c rows and k facts can be named
+-- v variables, c rows and k facts can be named; and what is known of the fact that the step makes
+abbrev MakesAt : ℕ → List ℤ → ℕ → Step → Type 0
+MakesAt v log at t = (f : Fact) → says.turn (stepOf log t) ≡ says.makes f → MadeFrom v log at × (f ≡ madeFact log at)
+
 module _ (v c : ℕ) (log : List ℤ) (k at : ℕ) where
-  made-by : (t : Step) {n : ℕ} → logs.step v c k at (drop at log) ≡ got (stepOf log t) n (drop n log) → MadeBy log at t
-  made-by (step.Inference r f) e = made-in v c k log at (stepOf log (step.Inference r f)) e refl .1
-  made-by (step.Deduction f h i) e = made-in v c k log at (stepOf log (step.Deduction f h i)) e refl .1
-  made-by (step.NoAssignment i) e = tt
-  made-by (step.NeverBelow x a i) e = tt
+  made-by : (t : Step) → MakesAt v log at t → MadeBy log at t
+  made-by (step.Inference r f) h = h (factOf log f) refl .1
+  made-by (step.Deduction f i n) h = h (factOf log f) refl .1
+  made-by (step.NoAssignment i) h = tt
+  made-by (step.NeverBelow x a i) h = tt
 
   conclude-leads : (b : Bool) (n : ℕ) (d : Conclusion) → length log ≤ 65536 → at < length log → ConclusionIn v d → LeadsTo v log at (concluded d b n (length log))
   conclude-leads b n d s h i = ⊎-elim (λ y. rw y (let l = ltb-true n (length log) y in omega arith)) (λ y. rw y (h, i)) (tested (ltb n (length log)))
 
-  leads-on : (t : Step) {n : ℕ} → length log ≤ 65536 → at < length log → n ≤ length log → PartsIn v c k log t → logs.step v c k at (drop at log) ≡ got (stepOf log t) n (drop n log) → (b : Bool) → LeadsTo v log at (afterPassing t b n (length log))
-  leads-on (step.Inference r f) s h l i e b = (step-left v c k at (drop at log) e .moves, l, made-in v c k log at (stepOf log (step.Inference r f)) e refl .0)
-  leads-on (step.Deduction f i j) s h l x e b = (step-left v c k at (drop at log) e .moves, l, made-in v c k log at (stepOf log (step.Deduction f i j)) e refl .0)
-  leads-on (step.NoAssignment i) s h l x e b = conclude-leads b _ _ s h tt
-  leads-on (step.NeverBelow y a i) s h l x e b = conclude-leads b _ _ s h (x .0)
+  leads-on : (t : Step) {n : ℕ} → length log ≤ 65536 → at < length log → n ≤ length log → PartsIn v c k log t → MakesAt v log at t → logs.step v c k at (drop at log) ≡ got (stepOf log t) n (drop n log) → (b : Bool) → LeadsTo v log at (afterPassing t b n (length log))
+  leads-on (step.Inference r f) s h l i m e b = (step-left v c k at (drop at log) e .moves, l, m (factOf log f) refl .0)
+  leads-on (step.Deduction f i j) s h l x m e b = (step-left v c k at (drop at log) e .moves, l, m (factOf log f) refl .0)
+  leads-on (step.NoAssignment i) s h l x m e b = conclude-leads b _ _ s h tt
+  leads-on (step.NeverBelow y a i) s h l x m e b = conclude-leads b _ _ s h (x .0)
 
 -- a rule refuses at position 0 or at one of the hints
 few-hints : (v c k : ℕ) (log : List ℤ) (t : Step) {num p : ℕ} → PartsIn v c k log t → Fault (stepOf log t) num p → p ≤ mostHints
@@ -117,19 +118,15 @@ few-hints v c k log (step.Deduction f h n) i used-up = omega arith
 few-hints v c k log (step.NoAssignment j) i unfit-nothing = omega arith
 few-hints v c k log (step.NeverBelow x a j) i unfit-bound = omega arith
 
--- with the answer of its reading; the variables and the rows are the model's
-module _ (m : Model) {v c : ℕ} (p : length (m .bounds) ≡ v) (q : length (m .rows) ≡ c) (log : List ℤ) (k at : ℕ) {g : StepAnswer} (e : toldStep log g ≡ logs.step v c k at (drop at log)) where
-  pub reach : (t : Step) (n : ℕ) → length log ≤ 65536 → at < length log → g ≡ read.Is t n → StepPlaced log (at + 1) g → Reached m v c log k at t n
-  reach t n s h f w =
-      let e′ : toldStep log (read.Is t n) ≡ logs.step v c k at (drop at log) = rw f at e in
-      let i = answer-in v c k log at (read.Is t n) e′ (rw f at w) in
-      record { below = h; reads = rw (p, q) (sym e′); parts = i .0; made = made-by v c log k at t (sym e′); leads = leads-on v c log k at t s h (i .1 .fits) (i .0) (sym e′); hints-few = λ facts j. few-hints v c k log t (i .0) (fault m facts (stepOf log t) j) }
+-- as it was read; the variables and the rows are the model's
+pub reach : (m : Model) {v c : ℕ} → length (m .bounds) ≡ v → length (m .rows) ≡ c → {log : List ℤ} {k at n : ℕ} {t : Step} → length log ≤ 65536 → at < length log → Stepped v c k log at n → t ≡ placed log at → Reached m v c log k at t n
+reach m {v} {c} p q {log} {k} {at} {n} s h i e =
+    let t = placed log at in
+    subst (λ t. Reached m v c log k at t n) (sym e)
+    (record { below = h; reads = rw (p, q) (i .is); parts = i .parts; made = made-by v c log k at t (λ f. i .made {f = f}); leads = leads-on v c log k at t s h (i .fits) (i .parts) (λ f. i .made {f = f}) (i .is); hints-few = λ facts j. few-hints v c k log t (i .parts) (fault m facts (stepOf log t) j) })
 
-  pub refused-so : (num r : ℕ) → g ≡ read.Refused num r → readStep m k at (drop at log) ≡ refused num r
-  refused-so num r f = rw (p, q) (sym e ∙ ap (toldStep log) f)
-
-  pub refused-in : (num r : ℕ) → g ≡ read.Refused num r → at ≤ length log → StepPlaced log (at + 1) g → r ≤ length log
-  refused-in num r f l w = answer-in v c k log at (read.Refused num r) (rw f at e) (rw f at w) l
+pub refused-so : (m : Model) {v c : ℕ} → length (m .bounds) ≡ v → length (m .rows) ≡ c → {log : List ℤ} {k at num r : ℕ} → Unread v c k log at num r → readStep m k at (drop at log) ≡ refused num r
+refused-so m p q u = rw (p, q) (u .is)
 
 -- rows that can be named are few
 pub row-below : (v c k : ℕ) (s : List ℤ) (t : Step) (n : ℕ) → c ≤ n → PartsIn v c k s t → RowBelow n t

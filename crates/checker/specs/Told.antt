@@ -15,8 +15,6 @@ use Rattle.meaning.specs.Check as says
 use Rattle.amend.specs.Bits.{bitAt}
 use Rattle.steps.specs.declared.Step.{Step}
 use Rattle.steps.specs.declared.Step.the-variants as step
-use Rattle.steps.specs.declared.StepAnswer.{StepAnswer}
-use Rattle.steps.specs.declared.StepAnswer.the-variants as read
 use Rattle.checker.specs.declared.Conclusion.{Conclusion}
 use Rattle.checker.specs.declared.Conclusion.the-variants as conclusion
 use Rattle.checker.specs.declared.Answer.{Answer}
@@ -73,10 +71,6 @@ afterPassing (step.Inference r f) held next len = moved.Goes next held
 afterPassing (step.Deduction f h n) held next len = moved.Goes next held
 afterPassing (step.NoAssignment k) held next len = concluded conclusion.NoAssignment held next len
 afterPassing (step.NeverBelow x a k) held next len = concluded (conclusion.NeverBelow x a) held next len
-
-abbrev pub notRead : StepAnswer → Moved
-notRead (read.Is t n) = moved.Stops 0 n false
-notRead (read.Refused num p) = moved.Stops num p false
 
 -- the table has the words of a box of v variables, with the atoms of a fact and the hints of a deduction
 abbrev pub BoxRoom : ℕ → List ℤ → Type 0

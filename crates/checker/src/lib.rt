@@ -4,6 +4,8 @@ pub mod walk;
 
 use amend;
 use amend::Amended;
+use model;
+use reading::Past;
 use reading::limits::MOST_HINTS;
 use reading::limits::MOST_PREMISES;
 use reading::limits::MOST_ROWS;
@@ -59,12 +61,6 @@ pub struct Walked {
     pub judged: u32,
 }
 
-// What stands before the walk: a refusal's number and position, or the number of variables and of rows of a good model.
-pub enum Entered {
-    Refused(u32, u32),
-    Open(usize, usize),
-}
-
 // The recheck's answer: the size of the changed set, and how many steps were held against their rule.
 pub struct Rechecked {
     pub answer: Answer,
@@ -78,18 +74,20 @@ pub fn check(model: &[i32], log: &[i32], places: &mut [u32]) -> Answer
 {
     let mut row_starts = [0u32; MOST_ROWS];
     let e = entry::enter(model, log, places.len(), &mut row_starts);
-    let Entered::Open(variables, rows) = e else {
-        return entry::refusal(e);
-    };
-    let mut cells = [0i32; BOX_WORDS];
-    let task = Task {
-        variables,
-        rows,
-        whole: true,
-        changed: 0,
-    };
-    let w = walk::walk(model, &row_starts, task, log, &mut *places, &mut cells);
-    w.answer
+    match e {
+        Past::Refused(number, position) => entry::refusal(number, position),
+        Past::Next(_) => {
+            let task = Task {
+                variables: model::variables_of(model),
+                rows: model::rows_of(model),
+                whole: true,
+                changed: 0,
+            };
+            let mut cells = [0i32; BOX_WORDS];
+            let w = walk::walk(model, &row_starts, task, log, &mut *places, &mut cells);
+            w.answer
+        }
+    }
 }
 
 // How many rows are reported: in whole mode all.
@@ -109,27 +107,31 @@ pub fn recheck(old: &[i32], new: &[i32], log: &[i32], places: &mut [u32]) -> Rec
 {
     let mut row_starts = [0u32; MOST_ROWS];
     let e = entry::enter(new, log, places.len(), &mut row_starts);
-    let Entered::Open(variables, rows) = e else {
-        return Rechecked {
-            answer: entry::refusal(e),
+    match e {
+        Past::Refused(number, position) => Rechecked {
+            answer: entry::refusal(number, position),
             changed: 0,
             judged: 0,
-        };
-    };
-    let amended = amend::compare(old, new, &row_starts, variables, rows);
-    let mut cells = [0i32; BOX_WORDS];
-    let task = Task {
-        variables,
-        rows,
-        whole: amended.whole,
-        changed: amended.changed,
-    };
-    let w = walk::walk(new, &row_starts, task, log, &mut *places, &mut cells);
-    let changed = rows_reported(amended, rows);
-    let answer = w.answer;
-    Rechecked {
-        answer,
-        changed,
-        judged: w.judged,
+        },
+        Past::Next(_) => {
+            let variables = model::variables_of(new);
+            let rows = model::rows_of(new);
+            let amended = amend::compare(old, new, &row_starts, variables, rows);
+            let task = Task {
+                variables,
+                rows,
+                whole: amended.whole,
+                changed: amended.changed,
+            };
+            let mut cells = [0i32; BOX_WORDS];
+            let w = walk::walk(new, &row_starts, task, log, &mut *places, &mut cells);
+            let changed = rows_reported(amended, rows);
+            let answer = w.answer;
+            Rechecked {
+                answer,
+                changed,
+                judged: w.judged,
+            }
+        }
     }
 }

@@ -7,11 +7,11 @@ use crate::Walked;
 use amend;
 use judging;
 use judging::Verdict;
+use reading::Past;
 use reading::refusals::NO_CONCLUSION;
 use reading::refusals::WORDS_AFTER_CONCLUSION;
 use steps;
 use steps::Step;
-use steps::StepAnswer;
 use words;
 ghost use mathlib.Core.Path.{_≡_};
 ghost use Prim.Native.Nat.{ℕ, _+_, _*_, _≤_, _<_};
@@ -21,7 +21,8 @@ ghost use Rattle.meaning.specs.Limits.{mostRows, mostLogWords};
 ghost use Rattle.meaning.specs.Check.{advance, oneMore, over};
 ghost use Rattle.steps.specs.Facts.{madeFact};
 ghost use Rattle.steps.specs.Told.{stepOf};
-ghost use Rattle.checker.specs.Told.{BoxRoom, toldMoved, heldBy, sayBy, answerBy, afterPassing, concluded, notRead, RowBelow, Tells};
+ghost use Rattle.checker.specs.Told.{BoxRoom, toldMoved, toldAnswer, heldBy, sayBy, answerBy, afterPassing, concluded, RowBelow, Tells};
+ghost use Rattle.judging.specs.Told.{toldVerdict};
 ghost use Rattle.model.specs.Planned.{modelOf, Planned};
 ghost use Rattle.judging.specs.Cited.{Cited};
 ghost use Rattle.checker.specs.LeadsTo.{LeadsTo};
@@ -64,16 +65,6 @@ fn conclude(c: Conclusion, held: bool, next: usize, len: usize) -> Moved
     Moved::Ends(c, held)
 }
 
-// The refusal of a step that could not be read.
-fn not_read(g: StepAnswer) -> Moved
-    ensures { λ r. ⌜ r ≡ notRead g ⌝ }
-{
-    match g {
-        StepAnswer::Is(_, n) => Moved::Stops(0, n, false),
-        StepAnswer::Refused(num, p) => Moved::Stops(num, p, false),
-    }
-}
-
 // The step that begins at a position, after those passed, is read and, where it is held, judged.
 fn one_step(
     model: &[i32],
@@ -93,17 +84,28 @@ fn one_step(
     }
     let k = passed.len();
     let g = steps::read_step(log, at, k, task.variables, task.rows);
-    let StepAnswer::Is(step, next) = g else {
-        return not_read(g);
-    };
-    let held = is_held(task, step);
-    if !held {
-        return after_passing(step, held, next, log.len());
-    }
-    let verdict = judging::judge(model, row_starts, task.variables, log, passed, step, cells);
-    match verdict {
-        Verdict::Passes => after_passing(step, held, next, log.len()),
-        Verdict::Fails(num, p) => Moved::Stops(num, p, held),
+    match g {
+        Past::Refused(num, p) => Moved::Stops(num, p, false),
+        Past::Next(next) => {
+            let step = steps::step_at(log, at);
+            let held = is_held(task, step);
+            if !held {
+                return after_passing(step, held, next, log.len());
+            }
+            let verdict = judging::judge(
+                model,
+                row_starts,
+                task.variables,
+                log,
+                passed,
+                step,
+                cells,
+            );
+            match verdict {
+                Verdict::Passes => after_passing(step, held, next, log.len()),
+                Verdict::Fails(num, p) => Moved::Stops(num, p, held),
+            }
+        }
     }
 }
 
