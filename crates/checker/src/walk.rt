@@ -132,7 +132,8 @@ fn note_start(k: usize, at: usize, places: &mut [u32])
     requires { ⌜ (k < length (now places)) × (at ≤ 65536) ⌝ }
     ensures { λ r. ⌜ now (places .exit) ≡ set (now (places .entry)) k at ⌝ }
 {
-    words::put_place(places, k, at as u32);
+    let start = at as u32;
+    words::put_place(places, k, start);
 }
 
 // Every step from the first on. The first word of each step passed goes into the places.
