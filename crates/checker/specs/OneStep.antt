@@ -8,8 +8,8 @@ use native.Mathlib.Omega.{arith}
 use borrow.Author.Tests.{ltb-true, ltb-false}
 use lib.Dec.{ltb}
 use lib.IntN.{ℤ, pos}
-use lib.ListN.{length, take, drop, drop-of-length-le}
-use lib.Seq.{drop-cons, take-length}
+use lib.ListN.{length, drop, drop-of-length-le}
+use lib.Seq.{drop-cons}
 use Rattle.words.specs.ListFacts.{tested, clash}
 use Rattle.meaning.specs.Limits.{mostHints}
 use Rattle.meaning.specs.Log.{Fact}
@@ -150,8 +150,8 @@ held-fails r false fs e = absurd (let z : _≡_ {A = ℕ} 0 1 = cc in omega arit
 
 -- a step that is held has the verdict of its rule, with the facts of the steps passed
 pub judged-is : (m : Model) (made : ℕ → Fact) (passed : List ℕ) (t : logs.Step) {v : judge.Verdict} (b : Bool) → not b ≡ false
-    → v ≡ judge.judge m (says.factAt (map made (take (length passed) passed))) t → v ≡ verdictOf b m (map made passed) t
-judged-is m made passed t true e j = j ∙ ap (λ l. judge.judge m (says.factAt (map made l)) t) (take-length passed)
+    → v ≡ judge.judge m (says.factAt (map made passed)) t → v ≡ verdictOf b m (map made passed) t
+judged-is m made passed t true e j = j
 judged-is m made passed t false e j = clash refl e
 
 -- one that is not held passes

@@ -8,7 +8,7 @@ use lib.Dec.{ltb}
 use lib.Count.{ones}
 use lib.IntN.{ℤ}
 use lib.ListN.{length, drop}
-use Rattle.meaning.specs.Limits.{mostVariables, mostPremises, mostHints}
+use Rattle.meaning.specs.Limits.{mostVariables}
 use Rattle.meaning.specs.Log.{Fact}
 use Rattle.meaning.specs.Log as log
 use Rattle.meaning.specs.Check as says
@@ -71,10 +71,6 @@ afterPassing (step.Inference r f) held next len = moved.Goes next held
 afterPassing (step.Deduction f h n) held next len = moved.Goes next held
 afterPassing (step.NoAssignment k) held next len = concluded conclusion.NoAssignment held next len
 afterPassing (step.NeverBelow x a k) held next len = concluded (conclusion.NeverBelow x a) held next len
-
--- the table has the words of a box of v variables, with the atoms of a fact and the hints of a deduction
-abbrev pub BoxRoom : ℕ → List ℤ → Type 0
-BoxRoom v cells = 2 * v + 2 * (mostPremises + 1 + mostHints) + 2 ≤ length cells
 
 -- the row that an inference cites is below n
 abbrev pub RowBelow : ℕ → Step → Type 0

@@ -21,8 +21,8 @@ ghost use Rattle.meaning.specs.Limits.{mostRows, mostLogWords};
 ghost use Rattle.meaning.specs.Check.{advance, oneMore, over};
 ghost use Rattle.steps.specs.Facts.{madeFact};
 ghost use Rattle.steps.specs.Told.{stepOf};
-ghost use Rattle.checker.specs.Told.{BoxRoom, toldMoved, toldAnswer, heldBy, sayBy, answerBy, afterPassing, concluded, RowBelow, Tells};
-ghost use Rattle.judging.specs.Told.{toldVerdict};
+ghost use Rattle.checker.specs.Told.{toldMoved, heldBy, sayBy, answerBy, afterPassing, concluded, RowBelow, Tells};
+ghost use Rattle.judging.specs.Boxes.{boxRoom};
 ghost use Rattle.model.specs.Planned.{modelOf, Planned};
 ghost use Rattle.judging.specs.Cited.{Cited};
 ghost use Rattle.checker.specs.LeadsTo.{LeadsTo};
@@ -75,7 +75,7 @@ fn one_step(
     at: usize,
     cells: &mut [i32],
 ) -> Moved
-    requires { ⌜ Planned (now model) (now «row_starts») (task .variables) (task .rows) × Cited (task .variables) (now log) (now passed) (length (now passed)) × BoxRoom (task .variables) (now cells) × (length (now log) ≤ mostLogWords) × (at ≤ length (now log)) × (length (now passed) ≤ at) ⌝ }
+    requires { ⌜ Planned (now model) (now «row_starts») (task .variables) (task .rows) × Cited (task .variables) (now log) (now passed) (length (now passed)) × (boxRoom (task .variables) ≤ length (now cells)) × (length (now log) ≤ mostLogWords) × (at ≤ length (now log)) × (length (now passed) ≤ at) ⌝ }
     ensures moved { λ r. ⌜ ((j : ℕ) → toldMoved (sayBy (task .whole)) (now (log .entry)) (stateAt (madeFact (now (log .entry))) (now (passed .entry)) j) (length (now (passed .entry))) at (madeFact (now (log .entry)) at) r ≡ advance (heldBy (task .whole) (task .changed)) (sayBy (task .whole)) (modelOf (now (model .entry))) (length (now (passed .entry))) (stateAt (madeFact (now (log .entry))) (now (passed .entry)) j) at (drop at (now (log .entry)))) ⌝ }
     ensures leads { λ r. ⌜ LeadsTo (task .variables) (now (log .entry)) at r ⌝ }
 {
@@ -145,7 +145,7 @@ pub fn walk(
     places: &mut [u32],
     cells: &mut [i32],
 ) -> Walked
-    requires { ⌜ Planned (now model) (now «row_starts») (task .variables) (task .rows) × (length (now log) ≤ mostLogWords) × (length (now log) ≤ 4 * length (now places)) × BoxRoom (task .variables) (now cells) ⌝ }
+    requires { ⌜ Planned (now model) (now «row_starts») (task .variables) (task .rows) × (length (now log) ≤ mostLogWords) × (length (now log) ≤ 4 * length (now places)) × (boxRoom (task .variables) ≤ length (now cells)) ⌝ }
     ensures { λ r. ⌜ Tells r (now (places .entry)) (now (places .exit)) (over (heldBy (task .whole) (task .changed)) (sayBy (task .whole)) (modelOf (now (model .entry))) (now (log .entry))) ⌝ }
 {
     let mut at: usize = 0;

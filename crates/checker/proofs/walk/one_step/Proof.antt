@@ -1,5 +1,6 @@
 -- Each return is a case of OneStep: the log ran out; the step could not be read; it failed its rule; it passed.
-use mathlib.Core.Path.{_≡_, sym, ap, _∙_}
+use Prim.Native.Nat.{ℕ}
+use mathlib.Core.Path.{_≡_, sym, ap, subst, _∙_}
 use mathlib.Core.List.{map}
 use native.Mathlib.Omega.{arith}
 use denote.Ref.{now}
@@ -8,10 +9,10 @@ use Rattle.meaning.specs.Limits.{mostRows}
 use Rattle.meaning.specs.Check.{verdictOf}
 use Rattle.steps.specs.Facts.{madeFact}
 use Rattle.steps.specs.Told.{stepOf}
-use Rattle.steps.specs.Laws.{Stepped, stepped, unread}
+use Rattle.steps.specs.Laws.{PartsIn, Stepped, stepped, unread}
 use Rattle.checker.specs.Told.{heldBy, sayBy}
 use Rattle.judging.specs.Told.{toldVerdict}
-use Rattle.model.specs.Planned.{modelOf}
+use Rattle.model.specs.Planned.{modelOf, Planned}
 use Rattle.checker.specs.FromStep.{stateAt}
 use Rattle.checker.specs.OneStep.{ran-out, not-read, has-failed, has-passed, Reached, held-fails, reach, refused-so, row-below, held-any, judged-is, waved-on}
 use borrow.Author.Needs.{needs}
@@ -60,8 +61,15 @@ returns-2 c =
 judge-requires : tie.Need-judge-requires
 judge-requires c κs =
     let t = c .before .before .before in
-    let p = t .before .before .before .before .before .before .before .before .pre in
-    (p .0, p .1, reached t .parts, p .2)
+    let o = t .before .before .before .before .before .before .before .before in
+    let a = o .args in
+    let p = o .pre in
+    let e = sym (p .0 .rows) in (
+      subst (λ (n : ℕ). Planned (now (a .model)) (now (a .«row_starts»)) (a .task .variables) n) e (p .0),
+      p .1,
+      subst (λ (n : ℕ). PartsIn (a .task .variables) n (length (now (a .passed))) (now (a .log)) (t .step-at .result)) e (reached t .parts),
+      p .2,
+    )
 
 returns-3 : tie.Need-returns-3
 returns-3 c =
