@@ -133,6 +133,7 @@ module _ (d : ℕ → List ℤ) where
     pub passed-jump : (s t u : ℤ) → Passed s → Covers s t j → Bad d c j others t → ((k : Activity) → In k others → t <ℤ ending k → u ≤ℤ ending k) → Passed u
     passed-jump s t u f cover b g v m h = ⊎-elim (λ l. f v m l) (λ n. jump s t v cover b (omega (arith, zz, nlt-read {a = v} {b = s} n)) (λ k q l. omega (arith, zz, h, g k q l))) (lt-or-not v s)
 
+    -- every start left is blocked
     pub passed-all : ((v : ℤ) → In v (d (j .start)) → Blocked d c j others v) → all (blockedFrom d c j others) (d (j .start)) ≡ true
     passed-all f = all-by (blockedFrom d c j others) (d (j .start)) (λ v m. blocked-by d c j others v (f v m))
 

@@ -21,9 +21,6 @@ Inv-loop model p occurring places₀ n count₀ i₀ places count i =
 abbrev μ-loop : tie.MeasureT-loop
 μ-loop model p occurring places₀ n count₀ i₀ places count i = natAt model p - i
 
-number-at-requires : tie.Need-number-at-requires Inv-loop μ-loop
-number-at-requires c κs = search needs
-
 loop-holds : tie.Need-loop-holds Inv-loop μ-loop
 loop-holds c =
     let a = c .before .before .before .args in
@@ -116,7 +113,7 @@ choose-spec =
     (tie.spec
     Inv-loop
     μ-loop
-    number-at-requires
+    (λ c κs. search needs)
     loop-holds
     add-number-at
     add-number-at-2

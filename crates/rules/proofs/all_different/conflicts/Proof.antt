@@ -14,14 +14,8 @@ use Rattle.rules.specs.AllDifferent.Chosen.{more-named, chosen-known}
 use Rattle.rules.proofs.all_different.conflicts.Statement.{statement}
 use Rattle.rules.proofs.all_different.conflicts.Tie as tie
 
-slice-aggregate-choose : tie.Need-slice-aggregate-choose
-slice-aggregate-choose c = search needs
-
 choose-requires : tie.Need-choose-requires
 choose-requires c κs = let s = c .before .before in (s .pre .0, more-named (s .pre .2) (s .pre .1), refl)
-
-array-share-prefix-chosen : tie.Need-array-share-prefix-chosen
-array-share-prefix-chosen c = search needs
 
 slice-aggregate-crowded : tie.Need-slice-aggregate-crowded
 slice-aggregate-crowded c =
@@ -43,9 +37,9 @@ pub conflicts-spec : {M : Type 1} → statement M
 conflicts-spec =
     tie.close
     (tie.spec
-    slice-aggregate-choose
+    (λ c. search needs)
     choose-requires
-    array-share-prefix-chosen
+    (λ c. search needs)
     slice-aggregate-crowded
     crowded-requires
     returns)

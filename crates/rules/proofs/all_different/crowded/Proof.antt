@@ -38,12 +38,6 @@ next-is c {o} e =
     let from = toZ w32 (c .before .before .loop .from) in
     subst (Soonest from (union (values (now (a .cells))) (now (a .xs)))) (sym (c .next-value .ensures) ∙ e) (soonest from (values (now (a .cells))) (values-rising (now (a .cells))) (now (a .xs)))
 
-enum-known-v : tie.Need-enum-known-v Inv-loop μ-loop
-enum-known-v c = search needs
-
-enum-told : tie.Need-enum-told Inv-loop μ-loop
-enum-told c = search needs
-
 returns : tie.Need-returns Inv-loop μ-loop
 returns c =
     let n = c .before .before in
@@ -55,9 +49,6 @@ returns c =
 found-is : (c : tie.After-known-told Inv-loop μ-loop) → let n = c .before .before .before in let a = n .before .before .before .before .args in Soonest (toZ w32 (n .before .before .loop .from)) (union (values (now (a .cells))) (now (a .xs))) (some (c .before .v .given .0 .0))
 found-is c = next-is (c .before .before .before) (ap toldNext (c .before .v .given .1))
 
-add-found : tie.Need-add-found Inv-loop μ-loop
-add-found c = search needs
-
 -- the value after it fits a word
 next-fits : (c : tie.After-known-told Inv-loop μ-loop) → SFits w32 (c .before .v .given .0 .0 +ℤ pos 1)
 next-fits c =
@@ -67,9 +58,6 @@ next-fits c =
 
 add-from : tie.Need-add-from Inv-loop μ-loop
 add-from c = let f = fit w32 (c .before .v .given .0 .0) (c .known-told .given .0 .1) in simp toZ-ofZ (next-fits c)
-
-loop-less : tie.Need-loop-less Inv-loop μ-loop
-loop-less c = search needs
 
 loop-again : tie.Need-loop-again Inv-loop μ-loop
 loop-again c =
@@ -94,11 +82,11 @@ crowded-spec =
     μ-loop
     loop-holds
     next-value-requires
-    enum-known-v
-    enum-told
+    (λ c. search needs)
+    (λ c. search needs)
     returns
-    add-found
+    (λ c. search needs)
     add-from
-    loop-less
+    (λ c. search needs)
     loop-again
     returns-2)

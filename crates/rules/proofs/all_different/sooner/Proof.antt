@@ -8,26 +8,8 @@ use Rattle.words.specs.Int.{fit}
 use Rattle.rules.proofs.all_different.sooner.Statement.{statement}
 use Rattle.rules.proofs.all_different.sooner.Tie as tie
 
-enum-known-a : tie.Need-enum-known-a
-enum-known-a c = search needs
-
-enum-told : tie.Need-enum-told
-enum-told c = search needs
-
-returns : tie.Need-returns
-returns c = search needs
-
-enum-known-b : tie.Need-enum-known-b
-enum-known-b c = search needs
-
-enum-told-2 : tie.Need-enum-told-2
-enum-told-2 c = search needs
-
 returns-2 : tie.Need-returns-2
 returns-2 c = simp (c .before .before .before .a .given .1, c .enum-told2 .given .1)
-
-smaller-requires : tie.Need-smaller-requires
-smaller-requires c κs = search needs
 
 returns-3 : tie.Need-returns-3
 returns-3 c =
@@ -42,11 +24,11 @@ pub sooner-spec : {M : Type 1} → statement M
 sooner-spec =
     tie.close
     (tie.spec
-    enum-known-a
-    enum-told
-    returns
-    enum-known-b
-    enum-told-2
+    (λ c. search needs)
+    (λ c. search needs)
+    (λ c. search needs)
+    (λ c. search needs)
+    (λ c. search needs)
     returns-2
-    smaller-requires
+    (λ c κs. search needs)
     returns-3)

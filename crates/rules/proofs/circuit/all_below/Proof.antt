@@ -5,12 +5,6 @@ use Rattle.rules.specs.Circuit.Mask.{power-word}
 use Rattle.rules.proofs.circuit.all_below.Statement.{statement}
 use Rattle.rules.proofs.circuit.all_below.Tie as tie
 
-cast-result : tie.Need-cast-result
-cast-result c = search needs
-
-shl-result : tie.Need-shl-result
-shl-result c = search needs
-
 sub-result : tie.Need-sub-result
 sub-result c = omega (arith, power-word (c .args .n) (omega arith), pow-pos (c .args .n))
 
@@ -18,4 +12,4 @@ returns : tie.Need-returns
 returns c = rw (power-word (c .args .n) (omega arith))
 
 pub all-below-spec : {M : Type 1} → statement M
-all-below-spec = tie.close (tie.spec cast-result shl-result sub-result returns)
+all-below-spec = tie.close (tie.spec (λ c. search needs) (λ c. search needs) sub-result returns)

@@ -10,12 +10,6 @@ use borrow.Author.Needs.{needs}
 use Rattle.rules.proofs.circuit.conflicts.Statement.{statement}
 use Rattle.rules.proofs.circuit.conflicts.Tie as tie
 
-number-at-requires : tie.Need-number-at-requires
-number-at-requires c κs = search needs
-
-add-links-of : tie.Need-add-links-of
-add-links-of c = search needs
-
 links-of-requires : tie.Need-links-of-requires
 links-of-requires c κs =
     let p = c .before .pre in
@@ -39,4 +33,4 @@ returns c =
 
 pub conflicts-spec : {M : Type 1} → statement M
 conflicts-spec =
-    tie.close (tie.spec number-at-requires add-links-of links-of-requires splits-requires returns)
+    tie.close (tie.spec (λ c κs. search needs) (λ c. search needs) links-of-requires splits-requires returns)

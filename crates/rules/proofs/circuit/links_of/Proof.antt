@@ -23,9 +23,6 @@ abbrev μ-loop : tie.MeasureT-loop
 loop-holds : tie.Need-loop-holds Inv-loop μ-loop
 loop-holds c = (omega arith, refl, λ i h. absurd (omega arith))
 
-add-variable-at : tie.Need-add-variable-at Inv-loop μ-loop
-add-variable-at c = search needs
-
 variable-at-requires : tie.Need-variable-at-requires Inv-loop μ-loop
 variable-at-requires c κs =
     let i = c .before .loop .i in
@@ -38,18 +35,6 @@ targets-requires c κs =
     let s = c .before .before .before in
     let v = s .pre .1 .named i (c .before .loop-test .taken) in
     (s .pre .0, rw (c .variable-at .ensures) (v .known), s .pre .2)
-
-mul-table : tie.Need-mul-table Inv-loop μ-loop
-mul-table c = search needs
-
-array-write-table : tie.Need-array-write-table Inv-loop μ-loop
-array-write-table c = search needs
-
-add-i : tie.Need-add-i Inv-loop μ-loop
-add-i c = search needs
-
-loop-less : tie.Need-loop-less Inv-loop μ-loop
-loop-less c = search needs
 
 loop-again : tie.Need-loop-again Inv-loop μ-loop
 loop-again c =
@@ -78,12 +63,12 @@ links-of-spec =
     Inv-loop
     μ-loop
     loop-holds
-    add-variable-at
+    (λ c. search needs)
     variable-at-requires
     targets-requires
-    mul-table
-    array-write-table
-    add-i
-    loop-less
+    (λ c. search needs)
+    (λ c. search needs)
+    (λ c. search needs)
+    (λ c. search needs)
     loop-again
     returns)

@@ -3,17 +3,9 @@ use borrow.Author.Needs.{needs}
 use Rattle.rules.proofs.circuit.splits.Statement.{statement}
 use Rattle.rules.proofs.circuit.splits.Tie as tie
 
-all-below-requires : tie.Need-all-below-requires
-all-below-requires c κs = search needs
-
-reach-requires : tie.Need-reach-requires
-reach-requires c κs = search needs
-
 returns : tie.Need-returns
 returns c = tells-ahead _ _ (c .before .before .before .pre .0) (c .before .before .all-below .ensures) (c .before .reach .ensures) (c .if1 .taken)
 
-reach-back-requires : tie.Need-reach-back-requires
-reach-back-requires c κs = search needs
 
 returns-2 : tie.Need-returns-2
 returns-2 c =
@@ -24,4 +16,4 @@ returns-2 c =
 pub splits-spec : {M : Type 1} → statement M
 splits-spec =
     tie.close
-    (tie.spec all-below-requires reach-requires returns reach-back-requires returns-2)
+    (tie.spec (λ c κs. search needs) (λ c κs. search needs) returns (λ c κs. search needs) returns-2)

@@ -6,14 +6,8 @@ use Rattle.rules.specs.Circuit.Mask.{power-word}
 use Rattle.rules.proofs.circuit.with.Statement.{statement}
 use Rattle.rules.proofs.circuit.with.Tie as tie
 
-cast-result : tie.Need-cast-result
-cast-result c = search needs
-
-shl-result : tie.Need-shl-result
-shl-result c = search needs
-
 returns : tie.Need-returns
 returns c = ap (bitOr (c .args .set)) (power-word (c .args .k) (omega arith))
 
 pub with-spec : {M : Type 1} → statement M
-with-spec = tie.close (tie.spec cast-result shl-result returns)
+with-spec = tie.close (tie.spec (λ c. search needs) (λ c. search needs) returns)

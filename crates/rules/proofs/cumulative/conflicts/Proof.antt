@@ -9,15 +9,6 @@ use Rattle.rules.specs.Cumulative.Row.{by-activity}
 use Rattle.rules.proofs.cumulative.conflicts.Statement.{statement}
 use Rattle.rules.proofs.cumulative.conflicts.Tie as tie
 
-number-at-requires : tie.Need-number-at-requires
-number-at-requires c κs = search needs
-
-add-fill-parts : tie.Need-add-fill-parts
-add-fill-parts c = search needs
-
-slice-aggregate-fill-parts : tie.Need-slice-aggregate-fill-parts
-slice-aggregate-fill-parts c = search needs
-
 -- the number of activities is that of the row
 few : (c : tie.After-number-at) → c .number-at .result ≤ 16
 few c = rw (c .number-at .ensures) (c .before .pre .0 .upto)
@@ -28,20 +19,8 @@ fill-parts-requires c κs =
     let e : ActivitiesIn (variables (now (s .args .cells))) (now (s .args .model)) (s .args .p + 2) (c .before .number-at .result) = rw (c .before .number-at .ensures) (s .pre .3) in
     (few (c .before), e, s .pre .4, sized-zeros)
 
-slice-aggregate-fill-peaks : tie.Need-slice-aggregate-fill-peaks
-slice-aggregate-fill-peaks c = search needs
-
-slice-aggregate-fill-peaks-2 : tie.Need-slice-aggregate-fill-peaks-2
-slice-aggregate-fill-peaks-2 c = search needs
-
 fill-peaks-requires : tie.Need-fill-peaks-requires
 fill-peaks-requires c κs = (few (c .before .before .before .before .before), c .before .before .before .fill-parts .ensures .sized, loads-zeros)
-
-slice-aggregate-some-squeezed : tie.Need-slice-aggregate-some-squeezed
-slice-aggregate-some-squeezed c = search needs
-
-slice-aggregate-some-squeezed-2 : tie.Need-slice-aggregate-some-squeezed-2
-slice-aggregate-some-squeezed-2 c = search needs
 
 some-squeezed-requires : tie.Need-some-squeezed-requires
 some-squeezed-requires c κs =
@@ -58,14 +37,14 @@ pub conflicts-spec : {M : Type 1} → statement M
 conflicts-spec =
     tie.close
     (tie.spec
-    number-at-requires
-    add-fill-parts
-    slice-aggregate-fill-parts
+    (λ c κs. search needs)
+    (λ c. search needs)
+    (λ c. search needs)
     fill-parts-requires
-    slice-aggregate-fill-peaks
-    slice-aggregate-fill-peaks-2
+    (λ c. search needs)
+    (λ c. search needs)
     fill-peaks-requires
-    slice-aggregate-some-squeezed
-    slice-aggregate-some-squeezed-2
+    (λ c. search needs)
+    (λ c. search needs)
     some-squeezed-requires
     returns)

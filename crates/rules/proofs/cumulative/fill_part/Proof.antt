@@ -20,33 +20,6 @@ use Rattle.rules.specs.Cumulative.Fill.{signless, ending-small}
 use Rattle.rules.proofs.cumulative.fill_part.Statement.{statement}
 use Rattle.rules.proofs.cumulative.fill_part.Tie as tie
 
-variable-at-requires : tie.Need-variable-at-requires
-variable-at-requires c κs = search needs
-
-add-lasts : tie.Need-add-lasts
-add-lasts c = search needs
-
-mul-lasts : tie.Need-mul-lasts
-mul-lasts c = search needs
-
-shared-slice-copy-out-lasts : tie.Need-shared-slice-copy-out-lasts
-shared-slice-copy-out-lasts c = search needs
-
-add-usage : tie.Need-add-usage
-add-usage c = search needs
-
-mul-usage : tie.Need-mul-usage
-mul-usage c = search needs
-
-shared-slice-copy-out-usage : tie.Need-shared-slice-copy-out-usage
-shared-slice-copy-out-usage c = search needs
-
-largest-requires : tie.Need-largest-requires
-largest-requires c κs = search needs
-
-least-requires : tie.Need-least-requires
-least-requires c κs = search needs
-
 -- the end of the sure part is a word
 ended : (c : tie.After-least) → (c .least .result ≡ least (values (now (c .before .before .before .before .before .args .cells)) (natAt (now (c .before .before .before .before .before .args .model)) (c .before .before .before .before .before .args .at)))) × SFits w32 (c .least .result +ℤ getD (now (c .before .before .before .before .before .args .model)) (c .before .before .before .before .before .args .at + 1) (pos 0))
 ended c =
@@ -66,32 +39,11 @@ add-until c =
     let g = fit w32 (c .least .result) (c .least .ok) in
     simp toZ-ofZ (ended c .1)
 
-mul-from : tie.Need-mul-from
-mul-from c = search needs
-
-slice-set-from-from : tie.Need-slice-set-from-from
-slice-set-from-from c = search needs
-
-add-until-2 : tie.Need-add-until-2
-add-until-2 c = search needs
-
-mul-until : tie.Need-mul-until
-mul-until c = search needs
-
 slice-set-from-until : tie.Need-slice-set-from-until
 slice-set-from-until c = let s = c .before .before .before .before .before in let l = s .pre .3 in let h = s .pre .0 in simp length-set (omega arith)
 
-add-usage-2 : tie.Need-add-usage-2
-add-usage-2 c = search needs
-
-mul-usage-2 : tie.Need-mul-usage-2
-mul-usage-2 c = search needs
-
 slice-set-from-usage : tie.Need-slice-set-from-usage
 slice-set-from-usage c = let s = c .before .before .before .before .before in let l = s .pre .3 in let h = s .pre .0 in simp length-set (omega arith)
-
-same-length : tie.Need-same-length
-same-length c = search needs
 
 returns : tie.Need-returns
 returns c =
@@ -111,23 +63,23 @@ pub fill-part-spec : {M : Type 1} → statement M
 fill-part-spec =
     tie.close
     (tie.spec
-    variable-at-requires
-    add-lasts
-    mul-lasts
-    shared-slice-copy-out-lasts
-    add-usage
-    mul-usage
-    shared-slice-copy-out-usage
-    largest-requires
-    least-requires
+    (λ c κs. search needs)
+    (λ c. search needs)
+    (λ c. search needs)
+    (λ c. search needs)
+    (λ c. search needs)
+    (λ c. search needs)
+    (λ c. search needs)
+    (λ c κs. search needs)
+    (λ c κs. search needs)
     add-until
-    mul-from
-    slice-set-from-from
-    add-until-2
-    mul-until
+    (λ c. search needs)
+    (λ c. search needs)
+    (λ c. search needs)
+    (λ c. search needs)
     slice-set-from-until
-    add-usage-2
-    mul-usage-2
+    (λ c. search needs)
+    (λ c. search needs)
     slice-set-from-usage
-    same-length
+    (λ c. search needs)
     returns)

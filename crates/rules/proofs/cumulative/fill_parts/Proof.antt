@@ -33,12 +33,6 @@ fill-part-requires c κs =
     let h : l .loop .k < 16 = omega arith in
     (h, one-activity (s .pre .1) (l .loop .k) (c .before .loop-test .taken), s .pre .2, l .loop .inv .2 .sized .long)
 
-add-k : tie.Need-add-k Inv-loop μ-loop
-add-k c = search needs
-
-loop-less : tie.Need-loop-less Inv-loop μ-loop
-loop-less c = search needs
-
 loop-again : tie.Need-loop-again Inv-loop μ-loop
 loop-again c =
     let f = c .before in
@@ -46,9 +40,6 @@ loop-again c =
     let s = l .before in
     let g = filled-more (values (now (s .args .cells))) (now (s .args .model)) (s .args .q) (l .loop .parts) (s .pre .2 .small) (s .pre .1) (s .pre .0) (l .loop .k) (f .before .before .loop-test .taken) (l .loop .inv .2) in
     (omega arith, f .fill-part .kept .1 .1 .1 .0 ∙ l .loop .inv .1, rw (f .fill-part .ensures) g)
-
-same-length : tie.Need-same-length Inv-loop μ-loop
-same-length c = search needs
 
 returns : tie.Need-returns Inv-loop μ-loop
 returns c =
@@ -66,8 +57,8 @@ fill-parts-spec =
     mul-fill-part
     add-fill-part
     fill-part-requires
-    add-k
-    loop-less
+    (λ c. search needs)
+    (λ c. search needs)
     loop-again
-    same-length
+    (λ c. search needs)
     returns)

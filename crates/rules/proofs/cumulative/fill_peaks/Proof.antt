@@ -25,9 +25,6 @@ abbrev μ-loop : tie.MeasureT-loop
 loop-holds : tie.Need-loop-holds Inv-loop μ-loop
 loop-holds c = (omega arith, refl, peaked-none _ _ _ (c .pre .2))
 
-add-until : tie.Need-add-until Inv-loop μ-loop
-add-until c = search needs
-
 mul-until : tie.Need-mul-until Inv-loop μ-loop
 mul-until c = let p = c .before .before .pre .0 in omega arith
 
@@ -58,12 +55,6 @@ mul-load c = let p = c .before .before .before .before .pre .0 in omega arith
 slice-set-from-load : tie.Need-slice-set-from-load Inv-loop μ-loop
 slice-set-from-load c = let l = c .before .before .before in let p = l .before .pre .0 in omega (arith, l .loop .inv .2 .loads .long)
 
-add-k : tie.Need-add-k Inv-loop μ-loop
-add-k c = search needs
-
-loop-less : tie.Need-loop-less Inv-loop μ-loop
-loop-less c = search needs
-
 loop-again : tie.Need-loop-again Inv-loop μ-loop
 loop-again c =
     let l = c .before .before .before in
@@ -75,9 +66,6 @@ loop-again c =
     let p = s .pre .0 in
     let e : c .sure-at .result ≡ peak ps (s .args .n) (l .loop .k) = simp toZ-ofZ at (c .sure-at .ensures) in
     (omega arith, simp length-set (l .loop .inv .1), simp toZ-ofZ (rw e (peaked-more ps (s .args .n) (l .loop .peaks) (s .pre .1) p (l .loop .k) (omega arith) (l .loop .inv .2))))
-
-same-length : tie.Need-same-length Inv-loop μ-loop
-same-length c = search needs
 
 returns : tie.Need-returns Inv-loop μ-loop
 returns c =
@@ -92,15 +80,15 @@ fill-peaks-spec =
     Inv-loop
     μ-loop
     loop-holds
-    add-until
+    (λ c. search needs)
     mul-until
     shared-slice-copy-out-until
     sub-sure-at
     sure-at-requires
     mul-load
     slice-set-from-load
-    add-k
-    loop-less
+    (λ c. search needs)
+    (λ c. search needs)
     loop-again
-    same-length
+    (λ c. search needs)
     returns)

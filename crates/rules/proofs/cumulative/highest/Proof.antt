@@ -29,15 +29,6 @@ mul-larger c = let p = c .before .before .pre .0 in omega arith
 shared-slice-copy-out-larger : tie.Need-shared-slice-copy-out-larger Inv-loop μ-loop
 shared-slice-copy-out-larger c = let p = c .before .before .pre .0 in omega (arith, c .before .before .pre .1 .long)
 
-larger-requires : tie.Need-larger-requires Inv-loop μ-loop
-larger-requires c κs = search needs
-
-add-k : tie.Need-add-k Inv-loop μ-loop
-add-k c = search needs
-
-loop-less : tie.Need-loop-less Inv-loop μ-loop
-loop-less c = search needs
-
 loop-again : tie.Need-loop-again Inv-loop μ-loop
 loop-again c =
     let l = c .before .before .before in
@@ -61,8 +52,8 @@ highest-spec =
     loop-holds
     mul-larger
     shared-slice-copy-out-larger
-    larger-requires
-    add-k
-    loop-less
+    (λ c κs. search needs)
+    (λ c. search needs)
+    (λ c. search needs)
     loop-again
     returns)

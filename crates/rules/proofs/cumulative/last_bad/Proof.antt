@@ -29,12 +29,6 @@ later-end-requires c κs =
     let h : c .before .loop .k < 16 = omega (arith, s .pre) in
     simp toZ-ofZ (h, s .pre .1, s .pre .2, s .pre .3, s .pre .4)
 
-add-k : tie.Need-add-k Inv-loop μ-loop
-add-k c = search needs
-
-loop-less : tie.Need-loop-less Inv-loop μ-loop
-loop-less c = search needs
-
 loop-again : tie.Need-loop-again Inv-loop μ-loop
 loop-again c =
     let l = c .before .before in
@@ -57,4 +51,4 @@ returns c =
 pub last-bad-spec : {M : Type 1} → statement M
 last-bad-spec =
     tie.close
-    (tie.spec Inv-loop μ-loop loop-holds later-end-requires add-k loop-less loop-again returns)
+    (tie.spec Inv-loop μ-loop loop-holds later-end-requires (λ c. search needs) (λ c. search needs) loop-again returns)

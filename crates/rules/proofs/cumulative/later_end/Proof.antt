@@ -14,21 +14,6 @@ use Rattle.rules.specs.Cumulative.Facts.{near-fits}
 use Rattle.rules.proofs.cumulative.later_end.Statement.{statement}
 use Rattle.rules.proofs.cumulative.later_end.Tie as tie
 
-add-until : tie.Need-add-until
-add-until c = search needs
-
-mul-until : tie.Need-mul-until
-mul-until c = search needs
-
-shared-slice-copy-out-until : tie.Need-shared-slice-copy-out-until
-shared-slice-copy-out-until c = search needs
-
-mul-peak : tie.Need-mul-peak
-mul-peak c = search needs
-
-shared-slice-copy-out-peak : tie.Need-shared-slice-copy-out-peak
-shared-slice-copy-out-peak c = search needs
-
 -- the time just before the end is a word
 before-end : (c : tie.Then2) → SFits w32 (untilOf (now (c .before .before .before .before .args .parts)) (c .before .before .before .before .args .k) -ℤ pos 1)
 before-end c =
@@ -94,11 +79,11 @@ pub later-end-spec : {M : Type 1} → statement M
 later-end-spec =
     tie.close
     (tie.spec
-    add-until
-    mul-until
-    shared-slice-copy-out-until
-    mul-peak
-    shared-slice-copy-out-peak
+    (λ c. search needs)
+    (λ c. search needs)
+    (λ c. search needs)
+    (λ c. search needs)
+    (λ c. search needs)
     sub-over
     over-requires
     returns

@@ -23,9 +23,6 @@ add-stop c = let f = c .fits .s in let g = c .fits .lasts in simp toZ-ofZ (ends 
 sub-last : tie.Need-sub-last
 sub-last c = let f = c .fits .s in let g = c .fits .lasts in let p = ends c .0 in simp toZ-ofZ (ends c .1)
 
-sure-at-requires : tie.Need-sure-at-requires
-sure-at-requires c κs = search needs
-
 -- what is surely in use at the last time
 sure-then : (c : tie.After-sure-at) → c .sure-at .result ≡ load (now (c .before .args .parts)) ((c .before .args .s +ℤ c .before .args .lasts) -ℤ pos 1) (c .before .args .n)
 sure-then c =
@@ -46,9 +43,6 @@ over-requires c κs =
     let few = s .pre .0 in
     let l : (pos 0 ≤ℤ c .sure-at .result) × (c .sure-at .result ≤ℤ pos 16000000) = rw e (b .0, omega (arith, zz)) in
     simp toZ-ofZ (s .pre .1, s .pre .2, s .pre .4, l .0, l .1)
-
-next-end-requires : tie.Need-next-end-requires
-next-end-requires c κs = search needs
 
 -- whether the last time is bad
 tried : (c : tie.After-over) → c .over .result ≡ over (now (c .before .before .args .parts)) (c .before .before .args .n) (c .before .before .args .capacity) (c .before .before .args .i) ((c .before .before .args .s +ℤ c .before .before .args .lasts) -ℤ pos 1)
@@ -72,9 +66,6 @@ returns c =
     let m = fit w32 (c .next-end .result) (c .next-end .ok) in
     simp toZ-ofZ (rw (leap-over (now (s .args .parts)) (now (s .args .peaks)) (s .args .n) (s .args .capacity) (s .args .i) (s .args .s) (s .args .lasts) (sym (tried (c .before .before)) ∙ c .before .if1 .taken)) (simp toZ-ofZ at (c .next-end .ensures)))
 
-last-bad-requires : tie.Need-last-bad-requires
-last-bad-requires c κs = search needs
-
 returns-2 : tie.Need-returns-2
 returns-2 c =
     let s = c .before .before .before .before in
@@ -91,9 +82,9 @@ leap-from-spec =
     (tie.spec
     add-stop
     sub-last
-    sure-at-requires
+    (λ c κs. search needs)
     over-requires
-    next-end-requires
+    (λ c κs. search needs)
     returns
-    last-bad-requires
+    (λ c κs. search needs)
     returns-2)

@@ -9,15 +9,6 @@ use Rattle.rules.specs.Cumulative.Table.{untilOf}
 use Rattle.rules.proofs.cumulative.nearer_end.Statement.{statement}
 use Rattle.rules.proofs.cumulative.nearer_end.Tie as tie
 
-add-end : tie.Need-add-end
-add-end c = search needs
-
-mul-end : tie.Need-mul-end
-mul-end c = search needs
-
-shared-slice-copy-out-end : tie.Need-shared-slice-copy-out-end
-shared-slice-copy-out-end c = search needs
-
 returns : tie.Need-returns
 returns c = let s = c .before .before in let f = s .fits .u in rw (eq-eqb (s .args .k) (s .args .i) (c .if1 .taken)) (toZ-ofZ f)
 
@@ -46,9 +37,9 @@ pub nearer-end-spec : {M : Type 1} → statement M
 nearer-end-spec =
     tie.close
     (tie.spec
-    add-end
-    mul-end
-    shared-slice-copy-out-end
+    (λ c. search needs)
+    (λ c. search needs)
+    (λ c. search needs)
     returns
     returns-2
     returns-3

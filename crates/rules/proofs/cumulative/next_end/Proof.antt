@@ -20,9 +20,6 @@ Inv-loop parts n i t u₀ k₀ u k = (k ≤ n) × (toZ w32 u ≡ nextEnd parts i
 abbrev μ-loop : tie.MeasureT-loop
 μ-loop parts n i t u₀ k₀ u k = n - k
 
-mul-u : tie.Need-mul-u Inv-loop μ-loop
-mul-u c = search needs
-
 shared-slice-copy-out-u : tie.Need-shared-slice-copy-out-u Inv-loop μ-loop
 shared-slice-copy-out-u c = omega (arith, c .pre .2 .long)
 
@@ -49,12 +46,6 @@ loop-holds c =
 nearer-end-requires : tie.Need-nearer-end-requires Inv-loop μ-loop
 nearer-end-requires c κs = (omega (arith, c .before .before .before .pre), c .before .before .before .pre .2 .long)
 
-add-k : tie.Need-add-k Inv-loop μ-loop
-add-k c = search needs
-
-loop-less : tie.Need-loop-less Inv-loop μ-loop
-loop-less c = search needs
-
 loop-again : tie.Need-loop-again Inv-loop μ-loop
 loop-again c =
     let l = c .before .before in
@@ -76,12 +67,12 @@ next-end-spec =
     (tie.spec
     Inv-loop
     μ-loop
-    mul-u
+    (λ c. search needs)
     shared-slice-copy-out-u
     add-u
     loop-holds
     nearer-end-requires
-    add-k
-    loop-less
+    (λ c. search needs)
+    (λ c. search needs)
     loop-again
     returns)

@@ -14,18 +14,6 @@ use Rattle.rules.specs.Cumulative.Facts.{used-small, sum-fits}
 use Rattle.rules.proofs.cumulative.over.Statement.{statement}
 use Rattle.rules.proofs.cumulative.over.Tie as tie
 
-add-usage : tie.Need-add-usage
-add-usage c = search needs
-
-mul-usage : tie.Need-mul-usage
-mul-usage c = search needs
-
-shared-slice-copy-out-usage : tie.Need-shared-slice-copy-out-usage
-shared-slice-copy-out-usage c = search needs
-
-used-at-requires : tie.Need-used-at-requires
-used-at-requires c κs = search needs
-
 sums : (c : tie.After-used-at) → (c .used-at .result ≡ usedAt (now (c .before .before .args .parts)) (c .before .before .args .t) (c .before .before .args .i)) × SFits w32 (c .before .before .args .capacity +ℤ c .used-at .result) × SFits w32 (usageOf (now (c .before .before .args .parts)) (c .before .before .args .i) +ℤ c .before .before .args .load)
 sums c =
     let s = c .before .before in
@@ -64,10 +52,10 @@ pub over-spec : {M : Type 1} → statement M
 over-spec =
     tie.close
     (tie.spec
-    add-usage
-    mul-usage
-    shared-slice-copy-out-usage
-    used-at-requires
+    (λ c. search needs)
+    (λ c. search needs)
+    (λ c. search needs)
+    (λ c κs. search needs)
     add-result
     add-result-2
     returns)

@@ -76,9 +76,6 @@ sub-room c =
 loop-holds : tie.Need-loop-holds Inv-loop μ-loop
 loop-holds c = (omega arith, refl)
 
-add-usage : tie.Need-add-usage Inv-loop μ-loop
-add-usage c = search needs
-
 few : (c : tie.In-loop Inv-loop μ-loop) → c .before .loop .i < natAt (now (c .before .before .before .before .before .before .args .model)) (c .before .before .before .before .before .before .args .p)
 few c = rw (← c .before .before .before .before .before .number-at .ensures) (c .loop-test .taken)
 
@@ -101,12 +98,6 @@ returns-2 c =
 -- an activity that fits beside all
 beside : (c : tie.After-usage Inv-loop μ-loop) → usageOf (now (c .before .before .before .before .before .before .before .args .parts)) (c .before .before .loop .i) ≤ℤ (getD (now (c .before .before .before .before .before .before .before .args .model)) (c .before .before .before .before .before .before .before .args .p + 1) (pos 0) -ℤ c .before .before .before .before .highest .result) → squeezes (values (now (c .before .before .before .before .before .before .before .args .cells))) (now (c .before .before .before .before .before .before .before .args .model)) (c .before .before .before .before .before .before .before .args .p) (c .before .before .loop .i) ≡ false
 beside c h = row-fits _ _ _ _ _ (c .before .before .before .before .before .before .before .pre) (c .before .before .loop .i) (few (c .before)) (rw (most (c .before .before .before .before)) at h)
-
-add-i : tie.Need-add-i Inv-loop μ-loop
-add-i c = search needs
-
-loop-less : tie.Need-loop-less Inv-loop μ-loop
-loop-less c = search needs
 
 loop-again : tie.Need-loop-again Inv-loop μ-loop
 loop-again c =
@@ -143,12 +134,12 @@ some-squeezed-spec =
     returns
     sub-room
     loop-holds
-    add-usage
+    (λ c. search needs)
     mul-usage
     shared-slice-copy-out-usage
     squeezed-at-requires
     returns-2
-    add-i
-    loop-less
+    (λ c. search needs)
+    (λ c. search needs)
     loop-again
     returns-3)

@@ -166,12 +166,6 @@ told c =
     let m = fit w32 (a .leap-from .result) (a .leap-from .ok) in
     rw (← leaps a, ← c .before .before .before .before .before .before .before .before .variable-at .ensures) (simp toZ-ofZ at (c .next-from .ensures))
 
-enum-known-next : tie.Need-enum-known-next Inv-loop μ-loop
-enum-known-next c = search needs
-
-enum-told : tie.Need-enum-told Inv-loop μ-loop
-enum-told c = search needs
-
 returns-3 : tie.Need-returns-3 Inv-loop μ-loop
 returns-3 c =
     let n = c .before .before in
@@ -231,8 +225,8 @@ squeezed-at-spec =
     returns
     returns-2
     next-from-requires
-    enum-known-next
-    enum-told
+    (λ c. search needs)
+    (λ c. search needs)
     returns-3
     loop-less
     loop-again)

@@ -41,12 +41,6 @@ turn c =
 add-sum : tie.Need-add-sum Inv-loop μ-loop
 add-sum c = let m = fit w32 (c .used-at .result) (c .used-at .ok) in simp toZ-ofZ (turn c .0)
 
-add-k : tie.Need-add-k Inv-loop μ-loop
-add-k c = search needs
-
-loop-less : tie.Need-loop-less Inv-loop μ-loop
-loop-less c = search needs
-
 loop-again : tie.Need-loop-again Inv-loop μ-loop
 loop-again c =
     let f = c .before .before .before .fits .t in
@@ -70,7 +64,7 @@ sure-at-spec =
     loop-holds
     used-at-requires
     add-sum
-    add-k
-    loop-less
+    (λ c. search needs)
+    (λ c. search needs)
     loop-again
     returns)

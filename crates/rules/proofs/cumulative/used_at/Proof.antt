@@ -8,30 +8,6 @@ use Rattle.rules.specs.Cumulative.Table.{fromOf, untilOf, usageOf}
 use Rattle.rules.proofs.cumulative.used_at.Statement.{statement}
 use Rattle.rules.proofs.cumulative.used_at.Tie as tie
 
-mul-from : tie.Need-mul-from
-mul-from c = search needs
-
-shared-slice-copy-out-from : tie.Need-shared-slice-copy-out-from
-shared-slice-copy-out-from c = search needs
-
-add-until : tie.Need-add-until
-add-until c = search needs
-
-mul-until : tie.Need-mul-until
-mul-until c = search needs
-
-shared-slice-copy-out-until : tie.Need-shared-slice-copy-out-until
-shared-slice-copy-out-until c = search needs
-
-add-usage : tie.Need-add-usage
-add-usage c = search needs
-
-mul-usage : tie.Need-mul-usage
-mul-usage c = search needs
-
-shared-slice-copy-out-usage : tie.Need-shared-slice-copy-out-usage
-shared-slice-copy-out-usage c = search needs
-
 returns : tie.Need-returns
 returns c =
     let r = c .before .before .before in
@@ -63,14 +39,14 @@ pub used-at-spec : {M : Type 1} → statement M
 used-at-spec =
     tie.close
     (tie.spec
-    mul-from
-    shared-slice-copy-out-from
-    add-until
-    mul-until
-    shared-slice-copy-out-until
-    add-usage
-    mul-usage
-    shared-slice-copy-out-usage
+    (λ c. search needs)
+    (λ c. search needs)
+    (λ c. search needs)
+    (λ c. search needs)
+    (λ c. search needs)
+    (λ c. search needs)
+    (λ c. search needs)
+    (λ c. search needs)
     returns
     returns-2
     returns-3)

@@ -24,18 +24,6 @@ Inv-loop model p cells terms bound sum₀ i₀ sum i =
 abbrev μ-loop : tie.MeasureT-loop
 μ-loop model p cells terms bound sum₀ i₀ sum i = natAt model p - i
 
-number-at-requires : tie.Need-number-at-requires Inv-loop μ-loop
-number-at-requires c κs = search needs
-
-add-bound : tie.Need-add-bound Inv-loop μ-loop
-add-bound c = search needs
-
-mul-bound : tie.Need-mul-bound Inv-loop μ-loop
-mul-bound c = search needs
-
-shared-slice-copy-out-bound : tie.Need-shared-slice-copy-out-bound Inv-loop μ-loop
-shared-slice-copy-out-bound c = search needs
-
 cast-bound : tie.Need-cast-bound Inv-loop μ-loop
 cast-bound c = search (needs, wide)
 
@@ -43,15 +31,6 @@ loop-holds : tie.Need-loop-holds Inv-loop μ-loop
 loop-holds c =
     let a = c .before .before .args in
     (omega arith, omega arith, sum-start (values (now (a .cells))) (natAt (now (a .model)) (a .p)) (now (a .model)) (a .p + 2))
-
-add-least-term : tie.Need-add-least-term Inv-loop μ-loop
-add-least-term c = search needs
-
-mul-least-term : tie.Need-mul-least-term Inv-loop μ-loop
-mul-least-term c = search needs
-
-add-least-term-2 : tie.Need-add-least-term-2 Inv-loop μ-loop
-add-least-term-2 c = search needs
 
 least-term-requires : tie.Need-least-term-requires Inv-loop μ-loop
 least-term-requires c κs =
@@ -71,12 +50,6 @@ more c =
 
 add-sum : tie.Need-add-sum Inv-loop μ-loop
 add-sum c = let f = fit w64 (c .least-term .result) (c .least-term .ok) in simp toZ-ofZ (more c .1)
-
-add-i : tie.Need-add-i Inv-loop μ-loop
-add-i c = search needs
-
-loop-less : tie.Need-loop-less Inv-loop μ-loop
-loop-less c = search needs
 
 loop-again : tie.Need-loop-again Inv-loop μ-loop
 loop-again c =
@@ -102,18 +75,18 @@ conflicts-spec =
     (tie.spec
     Inv-loop
     μ-loop
-    number-at-requires
-    add-bound
-    mul-bound
-    shared-slice-copy-out-bound
+    (λ c κs. search needs)
+    (λ c. search needs)
+    (λ c. search needs)
+    (λ c. search needs)
     cast-bound
     loop-holds
-    add-least-term
-    mul-least-term
-    add-least-term-2
+    (λ c. search needs)
+    (λ c. search needs)
+    (λ c. search needs)
     least-term-requires
     add-sum
-    add-i
-    loop-less
+    (λ c. search needs)
+    (λ c. search needs)
     loop-again
     returns)

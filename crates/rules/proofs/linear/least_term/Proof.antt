@@ -14,24 +14,6 @@ use Rattle.rules.specs.Linear.Sum.{term-below, term-above}
 use Rattle.rules.proofs.linear.least_term.Statement.{statement}
 use Rattle.rules.proofs.linear.least_term.Tie as tie
 
-mul-coefficient : tie.Need-mul-coefficient
-mul-coefficient c = search needs
-
-shared-slice-copy-out-coefficient : tie.Need-shared-slice-copy-out-coefficient
-shared-slice-copy-out-coefficient c = search needs
-
-add-variable-at : tie.Need-add-variable-at
-add-variable-at c = search needs
-
-variable-at-requires : tie.Need-variable-at-requires
-variable-at-requires c κs = search needs
-
-largest-requires : tie.Need-largest-requires
-largest-requires c κs = search needs
-
-product-requires : tie.Need-product-requires
-product-requires c κs = search needs
-
 returns : tie.Need-returns
 returns c =
     let n = c .before .before .before in
@@ -42,12 +24,6 @@ returns c =
     let k = getD (now (s .args .model)) (s .args .at) (pos 0) in
     let vs = values (now (s .args .cells)) (natAt (now (s .args .model)) (s .args .at + 1)) in
     simp toZ-ofZ (simp toZ-ofZ at (c .product .ensures) ∙ rw (c .before .largest .ensures, n .variable-at .ensures) (sym (term-below k vs (simp toZ-ofZ at (c .before .before .if1 .taken)))))
-
-least-requires : tie.Need-least-requires
-least-requires c κs = search needs
-
-product-requires-2 : tie.Need-product-requires-2
-product-requires-2 c κs = search needs
 
 returns-2 : tie.Need-returns-2
 returns-2 c =
@@ -64,13 +40,13 @@ pub least-term-spec : {M : Type 1} → statement M
 least-term-spec =
     tie.close
     (tie.spec
-    mul-coefficient
-    shared-slice-copy-out-coefficient
-    add-variable-at
-    variable-at-requires
-    largest-requires
-    product-requires
+    (λ c. search needs)
+    (λ c. search needs)
+    (λ c. search needs)
+    (λ c κs. search needs)
+    (λ c κs. search needs)
+    (λ c κs. search needs)
     returns
-    least-requires
-    product-requires-2
+    (λ c κs. search needs)
+    (λ c κs. search needs)
     returns-2)
