@@ -6,7 +6,6 @@ use Rattle.rules.proofs.circuit.splits.Tie as tie
 returns : tie.Need-returns
 returns c = tells-ahead _ _ (c .before .before .before .pre .0) (c .before .before .all-below .ensures) (c .before .reach .ensures) (c .if1 .taken)
 
-
 returns-2 : tie.Need-returns-2
 returns-2 c =
     let r = c .before .before in
