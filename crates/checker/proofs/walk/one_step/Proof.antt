@@ -65,7 +65,7 @@ judge-requires c κs =
     let a = o .args in
     let p = o .pre in
     let e = sym (p .0 .rows) in (
-      subst (λ (n : ℕ). Planned (now (a .model)) (now (a .«row_starts»)) (a .task .variables) n) e (p .0),
+      subst (λ (n : ℕ). Planned (now (a .model)) (now (a .row-starts)) (a .task .variables) n) e (p .0),
       p .1,
       subst (λ (n : ℕ). PartsIn (a .task .variables) n (length (now (a .passed))) (now (a .log)) (t .step-at .result)) e (reached t .parts),
       p .2,
