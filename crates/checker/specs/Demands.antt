@@ -13,8 +13,7 @@ use Rattle.meaning.specs.Log.{Step}
 use Rattle.meaning.specs.Judge.{rowAt}
 use Rattle.meaning.specs.Check.{check, recheck, Answer, shut, accepted, carried, Conclusion, Outcome, Rechecked as Again}
 use Rattle.meaning.specs.Claims.{Admitted, Concludes, Holds, Cited, SameVerdict, carries-so, accepts-so, refuses-so}
-use Rattle.meaning.specs.Faithful.{modelWords}
-use Rattle.meaning.specs.Ranges.{InRange}
+use Rattle.meaning.specs.Ranges.{modelTable, InRange}
 use Rattle.meaning.specs.Outcomes.{OnShut, Listed}
 use Rattle.meaning.specs.Proved.{proved}
 use Rattle.checker.specs.Told.{toldAnswer}
@@ -134,7 +133,7 @@ module _ (old new log : List ℤ) (lent left : List ℕ) (a : Answer) (promise :
 
 -- ---- rows that no step cites do not matter: two good models with the same bounds and number of rows, which agree on the rows that are cited, get the same answer and leave the same places
 abbrev pub GoodTable : List ℤ → Model → Type 0
-GoodTable model m = (length model ≤ 4096) × (model ≡ modelWords m) × InRange m
+GoodTable model m = (length model ≤ 4096) × (model ≡ modelTable m) × InRange m
 
 pub framed : (model₁ model₂ log : List ℤ) (m₁ m₂ : Model) → GoodTable model₁ m₁ → GoodTable model₂ m₂ → m₁ .bounds ≡ m₂ .bounds → length (m₁ .rows) ≡ length (m₂ .rows)
     → ((r : ℕ) → Cited m₁ r 0 0 [] log → rowAt m₁ r ≡ rowAt m₂ r)

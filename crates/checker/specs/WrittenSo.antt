@@ -14,7 +14,7 @@ use Rattle.meaning.specs.Judge.{passes}
 use Rattle.meaning.specs.Check.{Answer, shut, accepted, carried, Conclusion, nothing, Outcome, guarded, over, turn, makes, concludes, verdictOf, readStep, check, recheck, Good, good, bad, readGood, recheckOf, rechecked, fitsOld, changes, citesChanged}
 use Rattle.meaning.specs.Claims.{Admitted}
 use Rattle.meaning.specs.Outcomes.{Told, ran-out, broke-off, word-off, faulty, trailing, concluded, went, Wholly, old-bad, new-bad, unlike}
-use Rattle.meaning.specs.Ranges.{stepWords}
+use Rattle.meaning.specs.Ranges.{stepTable}
 use Rattle.meaning.specs.Proved.{proved}
 use Rattle.meaning.specs.Proved.Faults.{fault-number}
 use Rattle.meaning.specs.Proved.Guard.{Barred, long-model, long-log, few-places, bad-model, guarded-cases}
@@ -81,13 +81,13 @@ module _ (held : Step → Bool) (say : Conclusion → Answer) (m : Model) (log :
   behind : (k at : ℕ) (ws : List ℤ) {t : Step} {at' : ℕ} {rest : List ℤ} → readStep m k at ws ≡ got t at' rest → ws ≡ drop at log → Behind at at' rest
   behind k at ws {t} {at'} {rest} r e =
       let s = proved .step-is m k at ws t at' rest .0 r in
-      let n = length (stepWords t) in
+      let n = length (stepTable t) in
       let l : length ws ≡ length (drop at log) = ap length e in
       let d = length-drop at log in
       let h = step-shorter (length (m .bounds)) (length (m .rows)) k at ws r in
       let x = step-left (length (m .bounds)) (length (m .rows)) k at ws r .ends-at in
       record {
-        rest-is = sym (drop-append-seam (stepWords t) rest) ∙ ap (drop n) (sym (s .0)) ∙ ap (drop n) e ∙ drop-drop n at log ∙ ap (λ i. drop i log) (sym (s .1));
+        rest-is = sym (drop-append-seam (stepTable t) rest) ∙ ap (drop n) (sym (s .0)) ∙ ap (drop n) e ∙ drop-drop n at log ∙ ap (λ i. drop i log) (sym (s .1));
         inside = omega (arith, l, d, h);
         ends = omega (arith, l, d, h, x);
       }
