@@ -38,7 +38,7 @@ extern "C" {
 #define DIMPSYHOLT_PLACES 4096
 
 /* The kinds of answer. Open the gate on DIMPSYHOLT_ACCEPTED; on DIMPSYHOLT_CARRIED where the same log was
- * accepted against the old model before; on nothing else. */
+ * accepted against the old model before; on nothing else, and only for the conclusion that is needed. */
 #define DIMPSYHOLT_REFUSED 0
 #define DIMPSYHOLT_ACCEPTED 1
 #define DIMPSYHOLT_CARRIED 2

@@ -97,6 +97,7 @@ impl<'a> Words<'a> {
     fn places(&mut self, file: Option<&OsString>) -> Result<(), Failure> {
         match file {
             Some(file) if file == "-" => Err(Failure::usage("--places needs a file, standard output has the verdict")),
+            Some(file) if file.to_string_lossy().starts_with("--") => Err(Failure::usage("--places needs a file, ./ before a name that begins so")),
             Some(_) if self.places.is_some() => Err(Failure::usage("--places is given twice")),
             Some(file) => {
                 self.places = Some(PathBuf::from(file));

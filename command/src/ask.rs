@@ -8,6 +8,7 @@ use dimpsyholt::{Shut, PLACES};
 use std::fmt::Write as _;
 use std::fs;
 use std::io::Read;
+use std::os::unix::fs::MetadataExt;
 use std::path::Path;
 
 /// An entry that no step writes: a log has fewer words.
@@ -77,16 +78,19 @@ fn refused(shut: Shut) -> Result<Report, Failure> {
     }
 }
 
-/// The file of the places must not be a table that is still needed.
+/// The file of the places must not be a table that is still needed, by whatever name.
 fn not_an_input(file: &Path, inputs: &[&Source]) -> Result<(), Failure> {
-    let Ok(places) = fs::canonicalize(file) else {
+    let identity = |path: &Path| fs::metadata(path).ok().map(|found| (found.dev(), found.ino()));
+    let Some(places) = identity(file) else {
         return Ok(());
     };
     for input in inputs {
-        if let Source::File(path) = input {
-            if fs::canonicalize(path).is_ok_and(|path| path == places) {
-                return Err(Failure::usage(format!("--places would overwrite {}", path.display())));
-            }
+        let path = match input {
+            Source::File(path) => path,
+            Source::StandardInput => Path::new("/dev/stdin"),
+        };
+        if identity(path) == Some(places) {
+            return Err(Failure::usage(format!("--places would overwrite {}", path.display())));
         }
     }
     Ok(())

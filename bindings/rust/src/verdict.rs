@@ -68,6 +68,7 @@ pub enum Held<'a> {
 }
 
 /// The answer of a recheck.
+#[non_exhaustive]
 #[must_use = "the gate may only be opened for what was accepted or carried"]
 #[derive(Clone, Copy, Debug, PartialEq, Eq)]
 pub struct Recheck<'a> {

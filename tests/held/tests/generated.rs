@@ -38,7 +38,7 @@ fn all_are_answered_alike() {
     println!("{} cases in {seconds} s, {LIBRARY}", tally.total());
     print!("{tally}");
     differences.assert_none();
-    assert!(tally.total() >= 100_000);
+    assert!(tally.total() >= 200_000);
     let rare = tally.rarer_than(LEAST);
     assert!(rare.is_empty(), "fewer than {LEAST} times: {rare:?}");
 }
