@@ -11,6 +11,7 @@ use lib.IntN.{ℤ, pos, negsuc, negℤ}
 use lib.Signed.{leZ}
 use Rattle.words.specs.Lists.{All, empty, also}
 use Rattle.words.specs.ListFacts.{clash, le-of, of-le}
+use Rattle.meaning.specs.Limits.{mostCoefficient, mostDuration, mostUsage}
 use Rattle.meaning.specs.Model.{Row, linear, allDifferent, cumulative, circuit}
 use Rattle.meaning.specs.Log.{Atom, atMost, Fact}
 use Rattle.meaning.specs.Rule.{conflicts}
@@ -31,10 +32,10 @@ splits : (row : Row) → RowInRange 3 row → Named three row → (met unmet : L
 splits row h n met unmet e f = (sharp (given met) three 3 row h n .0 e, λ m. clash f (sharp (given unmet) three 3 row h n .1 m))
 
 -- ---- the rows are in range
-term-in : (c : ℤ) (x : ℕ) → leZ (negℤ (pos 1000000)) c ≡ true → leZ c (pos 1000000) ≡ true → x < 3 → TermInRange 3 (record { coefficient = c; variable = x })
-term-in c x p q l = record { coefficient-in = (le-of (negℤ (pos 1000000)) c p, le-of c (pos 1000000) q); variable-in = l }
+term-in : (c : ℤ) (x : ℕ) → leZ (negℤ (pos mostCoefficient)) c ≡ true → leZ c (pos mostCoefficient) ≡ true → x < 3 → TermInRange 3 (record { coefficient = c; variable = x })
+term-in c x p q l = record { coefficient-in = (le-of (negℤ (pos mostCoefficient)) c p, le-of c (pos mostCoefficient) q); variable-in = l }
 
-activity-in : (x d u : ℕ) → x < 3 → (1 ≤ d) × (d ≤ 10000) → (0 ≤ u) × (u ≤ 1000000) → ActivityInRange 3 (record { start = x; duration = d; usage = u })
+activity-in : (x d u : ℕ) → x < 3 → (1 ≤ d) × (d ≤ mostDuration) → (0 ≤ u) × (u ≤ mostUsage) → ActivityInRange 3 (record { start = x; duration = d; usage = u })
 activity-in x d u l p q = record { start-in = l; duration-in = p; usage-in = q }
 
 sum-in : RowInRange 3 sum

@@ -7,6 +7,7 @@ use mathlib.Core.List.{List, []}
 use native.Mathlib.Omega.{arith}
 use lib.ListN.{length}
 use lib.IntN.{ℤ}
+use Rattle.meaning.specs.Limits.{fewestPlaces, mostLogWords}
 use Rattle.meaning.specs.Read.{refused}
 use Rattle.meaning.specs.Model.{Model, readModel}
 use Rattle.meaning.specs.Log.{Fact, Step}
@@ -41,7 +42,7 @@ module _ (held : Step → Bool) (say : Conclusion → Answer) (m : Model) (model
   told-late (concluded {c = c} r v u) = apart _ c
   told-late (went r v u w) = told-late w
 
-  pub walk-facts : (log : List ℤ) → length log ≤ 16384 → Facts model (length log) places (over held say m log)
+  pub walk-facts : (log : List ℤ) → length log ≤ mostLogWords → Facts model (length log) places (over held say m log)
   walk-facts log l =
       let o : Outcome = over held say m log in
       let t : Told held say m 0 0 [] log (o .starts) (o .judged) (o .answer) = over-told held say m log in
@@ -102,7 +103,7 @@ check-judged model log places =
     (λ m l. told-judged (over-told (λ t. true) accepted m log))
 
 -- ---- with a good model and tables of the right sizes
-pub good-fits : (model log : List ℤ) (places : ℕ) {m : Model} → readGood model ≡ good m → length log ≤ 16384 → 4096 ≤ places → Fits model log places m
+pub good-fits : (model log : List ℤ) (places : ℕ) {m : Model} → readGood model ≡ good m → length log ≤ mostLogWords → fewestPlaces ≤ places → Fits model log places m
 good-fits model log places e l p =
     let r = good-read model e in
     record { model-fits = good-short model e; log-fits = l; places-suffice = p; at = r .at; rest = r .rest; reads = r .reads }

@@ -11,6 +11,7 @@ use lib.Signed.{leZ}
 use borrow.Author.Tests.{eqb-false}
 use Rattle.words.specs.Lists.{member, All, empty, also}
 use Rattle.words.specs.ListFacts.{clash, and-true}
+use Rattle.meaning.specs.Limits.{mostCoefficient, mostDuration, mostParts, mostRows, mostUsage, mostValue, mostVariables}
 use Rattle.meaning.specs.Read.{Reader, Got, got, refused, within, neg}
 use Rattle.meaning.specs.Model.{Model, Row, linear, allDifferent, cumulative, circuit, Bounds, Term, Activity, boundsPair, freshWord, fresh, distinct, term, activity, rowOfKind, row, end, readModel}
 use Rattle.meaning.specs.Outcomes.{ModelWrong, outside, twice, after}
@@ -22,19 +23,19 @@ ReadsModel = Reads 4 ModelWrong
 -- ---- what is known of a model that was read: the ranges of document 01
 
 pub record KnownBounds (b : Bounds) : Type 0 where
-  pub low-least : leZ (neg 100000) (b .low) ≡ true
+  pub low-least : leZ (neg mostValue) (b .low) ≡ true
   pub low-high : leZ (b .low) (b .high) ≡ true
-  pub high-most : leZ (b .high) (pos 100000) ≡ true
+  pub high-most : leZ (b .high) (pos mostValue) ≡ true
 
 pub record KnownTerm (v : ℕ) (t : Term) : Type 0 where
-  pub coefficient-range : within (neg 1000000) (pos 1000000) (t .coefficient) ≡ true
+  pub coefficient-range : within (neg mostCoefficient) (pos mostCoefficient) (t .coefficient) ≡ true
   pub variable-known : t .variable < v
 
 pub record KnownActivity (v : ℕ) (a : Activity) : Type 0 where
   pub start-known : a .start < v
   pub duration-some : 1 ≤ a .duration
-  pub duration-most : a .duration ≤ 10000
-  pub usage-most : a .usage ≤ 1000000
+  pub duration-most : a .duration ≤ mostDuration
+  pub usage-most : a .usage ≤ mostUsage
 
 -- none twice, and none of those seen before
 pub data Fresh : List ℕ → List ℕ → Type 0 where
@@ -42,18 +43,18 @@ pub data Fresh : List ℕ → List ℕ → Type 0 where
   fresh-next : {seen xs : List ℕ} {x : ℕ} → member eqb x seen ≡ false → Fresh (x ∷ seen) xs → Fresh seen (x ∷ xs)
 
 abbrev pub Sized : {A : Type 0} → ℕ → (A → Type 0) → List A → Type 0
-Sized least P xs = (least ≤ length xs) × (length xs ≤ 16) × All P xs
+Sized least P xs = (least ≤ length xs) × (length xs ≤ mostParts) × All P xs
 
 abbrev pub KnownRow : ℕ → Row → Type 0
 KnownRow v (linear b ts) = (within (neg 2147483648) (pos 2147483647) b ≡ true) × Sized 1 (KnownTerm v) ts
 KnownRow v (allDifferent xs) = Sized 2 (λ x. x < v) xs × Fresh [] xs
-KnownRow v (cumulative c js) = (c ≤ 1000000) × Sized 1 (KnownActivity v) js
+KnownRow v (cumulative c js) = (c ≤ mostUsage) × Sized 1 (KnownActivity v) js
 KnownRow v (circuit xs) = Sized 2 (λ x. x < v) xs × Fresh [] xs
 
 pub record KnownModel (m : Model) : Type 0 where
   pub some-variable : 1 ≤ length (m .bounds)
-  pub few-variables : length (m .bounds) ≤ 64
-  pub few-rows : length (m .rows) ≤ 64
+  pub few-variables : length (m .bounds) ≤ mostVariables
+  pub few-rows : length (m .rows) ≤ mostRows
   pub bounds-known : All KnownBounds (m .bounds)
   pub rows-known : All (KnownRow (length (m .bounds))) (m .rows)
 
@@ -80,42 +81,42 @@ reads-distinct v (suc n) seen =
 
 reads-bounds : ReadsModel (λ b n. KnownBounds b) boundsPair
 reads-bounds =
-    reads-bind (reads-word 5 (neg 100000) (pos 100000) outside) λ l i h.
-    reads-bind (reads-word 5 l (pos 100000) outside) λ u j g.
+    reads-bind (reads-word 5 (neg mostValue) (pos mostValue) outside) λ l i h.
+    reads-bind (reads-word 5 l (pos mostValue) outside) λ u j g.
     reads-give (record {
-      low-least = and-true (leZ (neg 100000) l) (leZ l (pos 100000)) (h .0) .0;
-      low-high = and-true (leZ l u) (leZ u (pos 100000)) (g .0) .0;
-      high-most = and-true (leZ l u) (leZ u (pos 100000)) (g .0) .1;
+      low-least = and-true (leZ (neg mostValue) l) (leZ l (pos mostValue)) (h .0) .0;
+      low-high = and-true (leZ l u) (leZ u (pos mostValue)) (g .0) .0;
+      high-most = and-true (leZ l u) (leZ u (pos mostValue)) (g .0) .1;
     })
 
 reads-term : (v : ℕ) → ReadsModel (λ t n. KnownTerm v t) (term v)
-reads-term v = reads-bind (reads-word 5 (neg 1000000) (pos 1000000) outside) λ c i h. reads-bind (reads-below 5 v outside) λ x j g. reads-give (record { coefficient-range = h .0; variable-known = g .0 })
+reads-term v = reads-bind (reads-word 5 (neg mostCoefficient) (pos mostCoefficient) outside) λ c i h. reads-bind (reads-below 5 v outside) λ x j g. reads-give (record { coefficient-range = h .0; variable-known = g .0 })
 
 reads-activity : (v : ℕ) → ReadsModel (λ a n. KnownActivity v a) (activity v)
 reads-activity v =
     reads-bind (reads-below 5 v outside) λ x i h.
-    reads-bind (reads-count 5 1 10000 outside) λ d j g.
-    reads-bind (reads-count 5 0 1000000 outside) λ u l o.
+    reads-bind (reads-count 5 1 mostDuration outside) λ d j g.
+    reads-bind (reads-count 5 0 mostUsage outside) λ u l o.
     reads-give (record { start-known = h .0; duration-some = g .0; duration-most = g .1; usage-most = o .1 })
 
 reads-kind : (v k : ℕ) → 1 ≤ k → ReadsModel (λ r n. KnownRow v r) (rowOfKind v k)
 reads-kind v zero h = absurd (omega arith)
 reads-kind v (suc zero) h =
-    reads-bind (reads-count 5 1 16 outside) λ n i o.
+    reads-bind (reads-count 5 1 mostParts outside) λ n i o.
     reads-bind (reads-word 5 (neg 2147483648) (pos 2147483647) outside) λ b j g.
     reads-bind (reads-times (KnownTerm v) (λ a n h. h) n (reads-term v)) λ ts l u.
     reads-give (g .0, (omega arith, omega arith, u .1))
 reads-kind v (suc (suc zero)) h =
-    reads-bind (reads-count 5 2 16 outside) λ n i o.
+    reads-bind (reads-count 5 2 mostParts outside) λ n i o.
     reads-bind (reads-distinct v n []) λ xs j g.
     reads-give ((omega arith, omega arith, g .1), g .2)
 reads-kind v (suc (suc (suc zero))) h =
-    reads-bind (reads-count 5 1 16 outside) λ n i o.
-    reads-bind (reads-count 5 0 1000000 outside) λ c j g.
+    reads-bind (reads-count 5 1 mostParts outside) λ n i o.
+    reads-bind (reads-count 5 0 mostUsage outside) λ c j g.
     reads-bind (reads-times (KnownActivity v) (λ a n h. h) n (reads-activity v)) λ js l u.
     reads-give (g .1, (omega arith, omega arith, u .1))
 reads-kind v (suc (suc (suc (suc k)))) h =
-    reads-bind (reads-count 5 2 16 outside) λ n i o.
+    reads-bind (reads-count 5 2 mostParts outside) λ n i o.
     reads-bind (reads-distinct v n []) λ xs j g.
     reads-give ((omega arith, omega arith, g .1), g .2)
 
@@ -128,9 +129,9 @@ reads-end m h at (w ∷ ws) = off {p = at} after (omega arith) (omega arith)
 
 pub reads-model : ReadsModel (λ m n. KnownModel m) readModel
 reads-model =
-    reads-bind (reads-count 5 1 64 outside) λ v i h.
+    reads-bind (reads-count 5 1 mostVariables outside) λ v i h.
     reads-bind (reads-times KnownBounds (λ b n k. k) v reads-bounds) λ bs j g.
-    reads-bind (reads-count 5 0 64 outside) λ c l o.
+    reads-bind (reads-count 5 0 mostRows outside) λ c l o.
     reads-bind (reads-times (KnownRow v) (λ r n k. k) c (reads-row v)) λ rs u w.
     reads-end (record { bounds = bs; rows = rs }) (record {
       some-variable = omega arith;

@@ -6,6 +6,7 @@ use mathlib.Core.Option.{Option, none, some}
 use native.Mathlib.Omega.{arith}
 use lib.ListN.{length}
 use lib.IntN.{ℤ, pos}
+use Rattle.meaning.specs.Limits.{mostHints, mostPremises, mostValue}
 use Rattle.meaning.specs.Read.{Reader, got, neg}
 use Rattle.meaning.specs.Log.{Atom, Fact, Step, inference, deduction, noAssignment, neverBelow, atom, consequentOf, fact, stepOfKind, step}
 use Rattle.meaning.specs.Check.{turn, makes}
@@ -20,7 +21,7 @@ pub reads-atom : (v : ℕ) → ReadsLog (λ a n. (a .variable < v) × (n ≡ 3))
 reads-atom v =
     reads-bind (reads-below 12 v refl) λ x i h.
     reads-bind (reads-count 12 1 4 refl) λ r j g.
-    reads-bind (reads-word 12 (neg 100000) (pos 100000) refl) λ a l o.
+    reads-bind (reads-word 12 (neg mostValue) (pos mostValue) refl) λ a l o.
     reads-give (omega arith, omega arith)
 
 -- the variables that a fact names are the model's
@@ -41,7 +42,7 @@ reads-consequent v (suc q) = reads-bind (reads-atom v) λ a n h. reads-give (h .
 
 pub reads-fact : (v : ℕ) → ReadsLog (λ f n. KnownFact v f × (2 ≤ n)) (fact v)
 reads-fact v =
-    reads-bind (reads-count 12 0 16 refl) λ p i g.
+    reads-bind (reads-count 12 0 mostPremises refl) λ p i g.
     reads-bind (reads-times (Known v) (λ a n h. h .0) p (reads-atom v)) λ ps j l.
     reads-bind (reads-count 12 0 1 refl) λ q o h.
     reads-bind (reads-consequent v q) λ c u w.
@@ -57,7 +58,7 @@ fewest (neverBelow x v n) = 4
 -- what step k cites: rows and variables of the model, and facts made before it
 abbrev pub KnownStep : ℕ → ℕ → ℕ → Step → Type 0
 KnownStep v c k (inference r f) = (r < c) × KnownFact v f
-KnownStep v c k (deduction f hs) = KnownFact v f × (length hs ≤ 64) × All (λ n. n < k) hs
+KnownStep v c k (deduction f hs) = KnownFact v f × (length hs ≤ mostHints) × All (λ n. n < k) hs
 KnownStep v c k (noAssignment n) = n < k
 KnownStep v c k (neverBelow x a n) = (x < v) × (n < k)
 
@@ -66,13 +67,13 @@ reads-kind v c k zero h = absurd (omega arith)
 reads-kind v c k (suc zero) h = reads-bind (reads-below 12 c refl) λ r i g. reads-bind (reads-fact v) λ f j l. reads-give ((g .0, l .0), omega arith)
 reads-kind v c k (suc (suc zero)) h =
     reads-bind (reads-fact v) λ f i g.
-    reads-bind (reads-count 12 0 64 refl) λ n j l.
+    reads-bind (reads-count 12 0 mostHints refl) λ n j l.
     reads-bind (reads-times (λ n. n < k) (λ a n h. h .0) n (reads-below 12 k refl)) λ hs o u.
     reads-give ((g .0, omega arith, u .1), omega arith)
 reads-kind v c k (suc (suc (suc zero))) h = reads-bind (reads-below 12 k refl) λ n i g. reads-give (g .0, omega arith)
 reads-kind v c k (suc (suc (suc (suc n)))) h =
     reads-bind (reads-below 12 v refl) λ x i g.
-    reads-bind (reads-word 12 (neg 100000) (pos 100000) refl) λ a j l.
+    reads-bind (reads-word 12 (neg mostValue) (pos mostValue) refl) λ a j l.
     reads-bind (reads-below 12 k refl) λ n o u.
     reads-give ((g .0, u .0), omega arith)
 
