@@ -4,6 +4,7 @@ pub mod limits;
 pub mod refusals;
 
 use words;
+use words::VarNo;
 ghost use mathlib.Core.Path.{_≡_};
 ghost use Prim.Native.Nat.{_≤_, _<_, _^_};
 ghost use lib.IntN.{pos};
@@ -69,4 +70,12 @@ pub fn number_at(s: &[i32], at: usize) -> usize
     ensures { λ r. ⌜ r ≡ natAt (now (s .entry)) at ⌝ }
 {
     words::index(words::word(s, at))
+}
+
+// The variable whose number stands at a position, where it was read well before.
+pub fn variable_at(s: &[i32], at: usize) -> VarNo
+    requires { ⌜ (at < length (now s)) × (pos 0 ≤ℤ getD (now s) at (pos 0)) ⌝ }
+    ensures { λ r. ⌜ r .0 ≡ natAt (now (s .entry)) at ⌝ }
+{
+    VarNo(number_at(s, at))
 }
