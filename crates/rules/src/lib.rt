@@ -1,31 +1,19 @@
-// The row rules: whether a row conflicts with a box. A module for each kind of row.
-pub mod all_different;
-pub mod circuit;
-pub mod cumulative;
-pub mod linear;
-
+// The row rules: whether a row conflicts with a box. A crate for each kind of row; here its kind is asked.
+use all_different;
+use circuit;
+use cumulative;
+use linear;
 use reading::number_at;
-use words::VarNo;
 ghost use mathlib.Core.Path.{_≡_};
-ghost use Prim.Native.Nat.{_*_, _≤_, _<_};
-ghost use lib.IntN.{pos};
-ghost use lib.ListN.{length, getD};
-ghost use lib.Signed.{_≤ℤ_};
+ghost use Prim.Native.Nat.{_*_, _≤_};
+ghost use lib.ListN.{length};
 ghost use Rattle.meaning.specs.Log.{Fact};
 ghost use Rattle.meaning.specs.Rule.{conflicts};
 ghost use Rattle.domain.specs.Box.{variables, values};
 ghost use Rattle.reading.specs.At.{natAt};
 ghost use Rattle.model.specs.Rows.{RowIn, rowAt};
-ghost use Rattle.rules.specs.Ready.{Ready};
+ghost use Rattle.rule_facts.specs.Ready.{Ready};
 ghost use Rattle.rules.specs.Occurring.{Occurring};
-
-// The variable whose number stands at a position of a table that was read well before.
-pub fn variable_at(s: &[i32], at: usize) -> VarNo
-    requires { ⌜ (at < length (now s)) × (pos 0 ≤ℤ getD (now s) at (pos 0)) ⌝ }
-    ensures { λ r. ⌜ r .0 ≡ natAt (now (s .entry)) at ⌝ }
-{
-    VarNo(number_at(s, at))
-}
 
 // Does the row whose kind stands at `at` conflict with the box, for a fact in which just the marked variables occur? All-different alone asks.
 pub fn conflicts(model: &[i32], at: usize, occurring: &[u64], cells: &[i32]) -> bool

@@ -1,0 +1,4 @@
+pub mod Chosen
+pub mod Distinct
+pub mod Soonest
+pub mod Crowded

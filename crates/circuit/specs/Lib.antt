@@ -1,0 +1,3 @@
+pub mod Mask
+pub mod Reach
+pub mod Trap

@@ -1,6 +1,0 @@
--- An all-different row.
-pub mod Each
-pub mod Chosen
-pub mod Distinct
-pub mod Soonest
-pub mod Crowded

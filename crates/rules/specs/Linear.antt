@@ -1,2 +1,0 @@
--- A linear row.
-pub mod Sum
