@@ -15,10 +15,10 @@ ghost use Rattle.model.specs.Rows.{RowIn, rowAt};
 ghost use Rattle.rule_facts.specs.Ready.{Ready};
 ghost use Rattle.rules.specs.Occurring.{Occurring};
 
-// Does the row whose kind stands at `at` conflict with the box, for a fact in which just the marked variables occur? All-different alone asks.
+// Does the row whose kind stands at `at` conflict with the box? All-different alone asks for the fact: only there the marked variables have to be just those that occur in it.
 pub fn conflicts(model: &[i32], at: usize, occurring: &[u64], cells: &[i32]) -> bool
     requires { ⌜ RowIn (variables (now cells)) (now model) at × (variables (now cells) ≤ 64 * length (now occurring)) × Ready (now cells) ⌝ }
-    ensures { λ r. ⌜ ((f : Fact) → Occurring f (now (occurring .entry)) → r ≡ conflicts f (values (now (cells .entry))) (rowAt (now (model .entry)) at)) ⌝ }
+    ensures { λ r. ⌜ ((f : Fact) → (natAt (now (model .entry)) at ≡ 2 → Occurring f (now (occurring .entry))) → r ≡ conflicts f (values (now (cells .entry))) (rowAt (now (model .entry)) at)) ⌝ }
 {
     let kind = number_at(model, at);
     if kind == 1 {

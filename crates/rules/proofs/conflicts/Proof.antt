@@ -33,8 +33,9 @@ conflicts-requires-2 c κs =
 returns-2 : tie.Need-returns-2
 returns-2 c = λ f e.
     let a = c .before .before .before .before .before .args in
-    rw (sym (c .before .before .before .number-at .ensures) ∙ c .before .if2 .taken)
-    (c .conflicts2 .ensures ∙ ap (λ (t : ℕ → Bool). crowded (values (now (a .cells))) (keep t (eachAt natAt 1 (natAt (now (a .model)) (a .at + 1)) (now (a .model)) (a .at + 1 + 1)))) (fun-ext e))
+    let k = sym (c .before .before .before .number-at .ensures) ∙ c .before .if2 .taken in
+    rw k
+    (c .conflicts2 .ensures ∙ ap (λ (t : ℕ → Bool). crowded (values (now (a .cells))) (keep t (eachAt natAt 1 (natAt (now (a .model)) (a .at + 1)) (now (a .model)) (a .at + 1 + 1)))) (fun-ext (e k)))
 
 conflicts-requires-3 : tie.Need-conflicts-requires-3
 conflicts-requires-3 c κs =
