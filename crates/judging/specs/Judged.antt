@@ -22,7 +22,7 @@ use Rattle.bridge.specs.Answers.{all-some, all-small}
 use Rattle.reading.specs.At.{eachAt}
 use Rattle.model.specs.Rows.{boundsAt, rowAt}
 use Rattle.model.specs.Planned.{modelOf, Planned}
-use Rattle.rules.specs.Ready.{Ready}
+use Rattle.rule_facts.specs.Ready.{Ready}
 use Rattle.steps.specs.Facts.{FactIn, factOf}
 use Rattle.steps.specs.declared.FactPlace.{FactPlace}
 use Rattle.judging.specs.Boxes.{boxRoom, filled, boxEmpty, Boxed}

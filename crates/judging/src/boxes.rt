@@ -1,6 +1,6 @@
 // The box of a fact: the declared bounds, narrowed by every premise and by the negated consequent.
 use domain;
-use rules::variable_at;
+use reading::variable_at;
 use steps::FactPlace;
 ghost use mathlib.Core.Path.{_≡_};
 ghost use Prim.Native.Nat.{_+_, _*_, _≤_, _<_};

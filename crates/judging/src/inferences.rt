@@ -15,7 +15,7 @@ ghost use Rattle.meaning.specs.Judge.{judgeInference};
 ghost use Rattle.meaning.specs.Rule.{conflicts};
 ghost use Rattle.domain.specs.Box.{variables, values};
 ghost use Rattle.model.specs.Rows.{RowIn, rowAt};
-ghost use Rattle.rules.specs.Ready.{Ready};
+ghost use Rattle.rule_facts.specs.Ready.{Ready};
 ghost use Rattle.model.specs.Planned.{modelOf, Planned};
 ghost use Rattle.steps.specs.Facts.{FactIn, factOf};
 ghost use Rattle.judging.specs.Boxes.{boxRoom};

@@ -22,7 +22,7 @@ returns c =
     let m = c .before .before .before in
     let s = m .before .before in
     let h = s .pre .2 in
-    c .conflicts .ensures _ (rw (m .mark .ensures) (marked-occurs (now (s .args .log)) (s .args .fact) (0 ∷ 0 ∷ 0 ∷ 0 ∷ []) (fact-of-more (omega arith) (s .pre .1))))
+    c .conflicts .ensures _ (λ _. rw (m .mark .ensures) (marked-occurs (now (s .args .log)) (s .args .fact) (0 ∷ 0 ∷ 0 ∷ 0 ∷ []) (fact-of-more (omega arith) (s .pre .1))))
 
 pub row-conflicts-spec : {M : Type 1} → statement M
 row-conflicts-spec =
