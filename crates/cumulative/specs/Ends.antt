@@ -13,7 +13,8 @@ use lib.Signed.{_≤ℤ_, _<ℤ_, leZ, ltZ, ≤ℤ-refl}
 use Rattle.words.specs.Int.{zz}
 use Rattle.words.specs.ListFacts.{tested, clash, and-true, and-both, of-lt, of-le}
 use Rattle.meaning.specs.Proved.Below.{up-to}
-use Rattle.cumulative.specs.Table.{untilOf, overBy, nearer, nextEnd, later, lastBad}
+use Rattle.sure_parts.specs.Table.{untilOf}
+use Rattle.cumulative.specs.Steps.{overBy, nearer, nextEnd, later, lastBad}
 
 -- ---- the first end after t of another activity, u at most
 module _ (ps : List ℤ) (i : ℕ) (t : ℤ) where

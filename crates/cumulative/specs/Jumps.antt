@@ -14,20 +14,17 @@ use Rattle.words.specs.Lists.{any, all, least}
 use Rattle.words.specs.ListFacts.{tested, and-both, or-cases, or-left, or-right, last-of, le-total, lt-or-not, before-lt, before-le, clash, same-test, any-found, any-holds, all-at, all-by, Rising, least-below, sum-le, and-true}
 use Rattle.meaning.specs.Model.{Activity}
 use Rattle.meaning.specs.Rule.{surely, sure, blockedFrom}
+use Rattle.sure_parts.specs.Parts.{ending}
 use Rattle.meaning.specs.Proved.Loads.{during-of, of-during, Covers, Surely, surely-yes, surely-most, Bad, Blocked, blocked-of, blocked-by}
 
 module _ (d : ℕ → List ℤ) where
-  -- where the sure part of an activity ends, if it has one
-  abbrev pub ending : Activity → ℤ
-  ending j = least (d (j .start)) +ℤ pos (j .duration)
-
   -- ---- sure usage at two times
   pub sure-most : (t u : ℤ) (js : List Activity) → ((j : Activity) → In j js → Surely d t j → Surely d u j) → sure d t js ≤ sure d u js
   sure-most t u js h = sum-le (surely d t) (surely d u) js (λ j m. surely-most d t j (surely d u j) (λ g. surely-yes d u j (h j m g)))
 
   -- no sure part that has not ended at t has ended at u
   abbrev pub Unended : ℤ → ℤ → List Activity → Type 0
-  Unended t u js = (j : Activity) → In j js → t <ℤ ending j → u <ℤ ending j
+  Unended t u js = (j : Activity) → In j js → t <ℤ ending d j → u <ℤ ending d j
 
   -- sure usage falls only where a sure part ends
   pub sure-rises : (t u : ℤ) (js : List Activity) → t ≤ℤ u → Unended t u js → sure d t js ≤ sure d u js
@@ -53,29 +50,29 @@ module _ (d : ℕ → List ℤ) where
 
     -- ---- the times to try for a start s: its last one, and the last one of each sure part
     abbrev pub Tried : ℤ → ℤ → Type 0
-    Tried s t = (t ≡ (s +ℤ pos (j .duration)) -ℤ pos 1) ⊎ ((k : Activity) × In k others × (t ≡ ending k -ℤ pos 1))
+    Tried s t = (t ≡ (s +ℤ pos (j .duration)) -ℤ pos 1) ⊎ ((k : Activity) × In k others × (t ≡ ending d k -ℤ pos 1))
 
     -- up to e no sure part ends that has not ended when the start is blocked, so it is blocked just before e
-    blocked-before : (s e : ℤ) (b : Blocked d c j others s) → b .time <ℤ e → e ≤ℤ (s +ℤ pos (j .duration)) → ((k : Activity) → In k others → b .time <ℤ ending k → e ≤ℤ ending k)
+    blocked-before : (s e : ℤ) (b : Blocked d c j others s) → b .time <ℤ e → e ≤ℤ (s +ℤ pos (j .duration)) → ((k : Activity) → In k others → b .time <ℤ ending d k → e ≤ℤ ending d k)
         → Tried s (e -ℤ pos 1) → (r : Blocked d c j others s) × Tried s (r .time)
     blocked-before s e b l h f g =
         let t = b .time in
         let le = before-le t e l in
         let cover : Covers s (e -ℤ pos 1) j = record { from = omega (arith, zz, b .covered .from, le); until = before-lt e (s +ℤ pos (j .duration)) h } in
-        (record { time = e -ℤ pos 1; covered = cover; bad = bad-on t (e -ℤ pos 1) le (λ k m p. before-lt e (ending k) (f k m p)) (b .bad) }, g)
+        (record { time = e -ℤ pos 1; covered = cover; bad = bad-on t (e -ℤ pos 1) le (λ k m p. before-lt e (ending d k) (f k m p)) (b .bad) }, g)
 
     -- a start that is blocked is blocked at one of these
     pub tried-blocked : (s : ℤ) → Blocked d c j others s → (r : Blocked d c j others s) × Tried s (r .time)
     tried-blocked s b =
-        ⊎-elim (λ q. let (k, m, p, f) = q in part k m p f (le-total (ending k) (s +ℤ pos (j .duration)))) (λ n. whole (λ k m h. absurd (n k m h)))
-        (last-of (λ k. b .time <ℤ ending k) (λ k. lt-or-not (b .time) (ending k)) (λ k i. ending i ≤ℤ ending k) (λ k i. le-total (ending i) (ending k)) (λ k i h p q. omega (arith, zz)) others)
+        ⊎-elim (λ q. let (k, m, p, f) = q in part k m p f (le-total (ending d k) (s +ℤ pos (j .duration)))) (λ n. whole (λ k m h. absurd (n k m h)))
+        (last-of (λ k. b .time <ℤ ending d k) (λ k. lt-or-not (b .time) (ending d k)) (λ k i. ending d i ≤ℤ ending d k) (λ k i. le-total (ending d i) (ending d k)) (λ k i h p q. omega (arith, zz)) others)
       where
-        whole : ((k : Activity) → In k others → b .time <ℤ ending k → (s +ℤ pos (j .duration)) ≤ℤ ending k) → (r : Blocked d c j others s) × Tried s (r .time)
+        whole : ((k : Activity) → In k others → b .time <ℤ ending d k → (s +ℤ pos (j .duration)) ≤ℤ ending d k) → (r : Blocked d c j others s) × Tried s (r .time)
         whole f = blocked-before s (s +ℤ pos (j .duration)) b (b .covered .until) (≤ℤ-refl (s +ℤ pos (j .duration))) f (inl refl)
 
-        part : (k : Activity) → In k others → b .time <ℤ ending k → ((i : Activity) → In i others → b .time <ℤ ending i → ending k ≤ℤ ending i)
-            → (ending k ≤ℤ (s +ℤ pos (j .duration))) ⊎ ((s +ℤ pos (j .duration)) ≤ℤ ending k) → (r : Blocked d c j others s) × Tried s (r .time)
-        part k m p f (inl l) = blocked-before s (ending k) b p l f (inr (k, m, refl))
+        part : (k : Activity) → In k others → b .time <ℤ ending d k → ((i : Activity) → In i others → b .time <ℤ ending d i → ending d k ≤ℤ ending d i)
+            → (ending d k ≤ℤ (s +ℤ pos (j .duration))) ⊎ ((s +ℤ pos (j .duration)) ≤ℤ ending d k) → (r : Blocked d c j others s) × Tried s (r .time)
+        part k m p f (inl l) = blocked-before s (ending d k) b p l f (inr (k, m, refl))
         part k m p f (inr l) = whole (λ i n h. omega (arith, zz, l, f i n h))
 
     -- the same as a test: the times that a program tries for the start s
@@ -86,7 +83,7 @@ module _ (d : ℕ → List ℤ) where
     tries s t = leZ s t && ltZ t (s +ℤ pos (j .duration)) && bad t
 
     abbrev pub tried : ℤ → Bool
-    tried s = tries s ((s +ℤ pos (j .duration)) -ℤ pos 1) || any (λ k. tries s (ending k -ℤ pos 1)) others
+    tried s = tries s ((s +ℤ pos (j .duration)) -ℤ pos 1) || any (λ k. tries s (ending d k -ℤ pos 1)) others
 
     pub tries-covers : (s t : ℤ) → tries s t ≡ true → Covers s t j
     tries-covers s t h = let u = s +ℤ pos (j .duration) in during-of s u t (and-true (leZ s t && ltZ t u) (bad t) h .0)
@@ -106,13 +103,13 @@ module _ (d : ℕ → List ℤ) where
     pub blocked-is-tried : (s : ℤ) → blockedFrom d c j others s ≡ tried s
     blocked-is-tried s = same-test (blockedFrom d c j others s) (tried s)
         (λ h. let (b, g) = tried-blocked s (blocked-of d c j others s h) in found b g)
-        (λ h. blocked-by d c j others s (⊎-elim (tries-of s last) (λ g. let (k, m, e) = any-found ends others g in tries-of s (ending k -ℤ pos 1) e) (or-cases (tries s last) (any ends others) h)))
+        (λ h. blocked-by d c j others s (⊎-elim (tries-of s last) (λ g. let (k, m, e) = any-found ends others g in tries-of s (ending d k -ℤ pos 1) e) (or-cases (tries s last) (any ends others) h)))
       where
         last : ℤ
         last = (s +ℤ pos (j .duration)) -ℤ pos 1
 
         ends : Activity → Bool
-        ends k = tries s (ending k -ℤ pos 1)
+        ends k = tries s (ending d k -ℤ pos 1)
 
         found : (b : Blocked d c j others s) → Tried s (b .time) → tried s ≡ true
         found b (inl e) = or-left (any ends others) (subst (λ t. tries s t ≡ true) e (tries-by s b))
@@ -130,7 +127,7 @@ module _ (d : ℕ → List ℤ) where
     passed-gap s u f g v m h = ⊎-elim (λ l. f v m l) (λ n. absurd (let k = g v m (omega (arith, zz, nlt-read {a = v} {b = s} n)) in omega (arith, zz))) (lt-or-not v s)
 
     -- a bad time t of s passes all starts up to the next end of a sure part, u
-    pub passed-jump : (s t u : ℤ) → Passed s → Covers s t j → Bad d c j others t → ((k : Activity) → In k others → t <ℤ ending k → u ≤ℤ ending k) → Passed u
+    pub passed-jump : (s t u : ℤ) → Passed s → Covers s t j → Bad d c j others t → ((k : Activity) → In k others → t <ℤ ending d k → u ≤ℤ ending d k) → Passed u
     passed-jump s t u f cover b g v m h = ⊎-elim (λ l. f v m l) (λ n. jump s t v cover b (omega (arith, zz, nlt-read {a = v} {b = s} n)) (λ k q l. omega (arith, zz, h, g k q l))) (lt-or-not v s)
 
     -- every start left is blocked

@@ -15,12 +15,15 @@ use Rattle.words.specs.ListFacts.{tested, clash, any-found, or-cases, and-true,
 use Rattle.meaning.specs.Model.{Activity}
 use Rattle.meaning.specs.Rule.{sure}
 use Rattle.meaning.specs.Proved.Loads.{Bad}
-use Rattle.cumulative.specs.Jumps.{ending, bad, tries, tried, tries-covers, Passed, passed-jump}
+use Rattle.sure_parts.specs.Parts.{ending}
+use Rattle.cumulative.specs.Jumps.{bad, tries, tried, tries-covers, Passed, passed-jump}
 use Rattle.meaning.specs.Proved.Positions.{othersOf, others-at}
-use Rattle.cumulative.specs.Table.{fromOf, untilOf, over, overBy, nextEnd, peak, leap}
-use Rattle.cumulative.specs.Facts.{leap-over, leap-under}
+use Rattle.sure_parts.specs.Table.{fromOf, untilOf, peak}
+use Rattle.cumulative.specs.Steps.{over, overBy, nextEnd, leap}
+use Rattle.cumulative.specs.Turns.{leap-over, leap-under}
 use Rattle.cumulative.specs.Ends.{next-first, noRoom, Last, nowhere, found, last-is}
-use Rattle.cumulative.specs.Parts.{Part, over-is}
+use Rattle.sure_parts.specs.Parts.{Part}
+use Rattle.cumulative.specs.Beside.{over-is}
 
 -- the number before v, the other way round
 of-before : (v w : ℤ) → (v -ℤ pos 1) <ℤ w → v ≤ℤ w

@@ -1,10 +1,9 @@
 pub mod Jumps
-pub mod Table
-pub mod Facts
+pub mod Steps
+pub mod Turns
 pub mod Ends
-pub mod Parts
+pub mod Beside
 pub mod Leaps
 pub mod Top
-pub mod Fill
 pub mod Search
 pub mod Row

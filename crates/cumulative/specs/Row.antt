@@ -23,10 +23,11 @@ use Rattle.model.specs.Rows.{activityAt, Counted, ActivitiesIn}
 use Rattle.domain.specs.Box.{variables, values, values-rising}
 use Rattle.domain.specs.Sets.{firstFrom}
 use Rattle.rule_facts.specs.Ready.{Ready}
-use Rattle.cumulative.specs.Table.{fromOf, untilOf, usageOf, leap, Start}
+use Rattle.sure_parts.specs.Table.{fromOf, untilOf, usageOf, mostLoad}
+use Rattle.cumulative.specs.Steps.{leap, Start}
 use Rattle.cumulative.specs.Leaps.{Tables}
 use Rattle.cumulative.specs.Top.{topOf, top-is, top-upto, top-overload, top-fits}
-use Rattle.cumulative.specs.Fill.{Filled, Peaked, ActivityIn, one-activity, signless}
+use Rattle.sure_parts.specs.Fill.{Filled, Peaked, ActivityIn, one-activity, signless}
 use Rattle.cumulative.specs.Search.{Searching, search-start, search-free, search-beyond, search-none, search-on}
 
 abbrev pub activities : List ℤ → ℕ → List Activity
@@ -164,7 +165,7 @@ module _ (cells m : List ℤ) (p : ℕ) (ps peaks : List ℤ) (r : Prepared cell
   capacity-is = signless (getD m (p + 1) (pos 0)) (r .row .capacity .0)
 
   -- no sum of the words that are compared overflows
-  pub top-small : (pos 0 ≤ℤ top) × (top ≤ℤ pos 16000000)
+  pub top-small : (pos 0 ≤ℤ top) × (top ≤ℤ pos mostLoad)
   top-small = (top-is peaks (natAt m p) .signless, top-upto peaks (natAt m p) (r .peaked .loads) (r .row .counted .upto))
 
   pub row-overload : getD m (p + 1) (pos 0) <ℤ top → someBelow (squeezes (values cells) m p) (natAt m p) ≡ true

@@ -16,7 +16,8 @@ use Rattle.meaning.specs.Model.{Activity}
 use Rattle.cumulative.specs.Jumps.{Passed, passed-none, passed-gap, passed-all, stopped}
 use Rattle.meaning.specs.Proved.Positions.{othersOf, squeezedAt}
 use Rattle.domain.specs.Sets.{firstFrom, first-from-in, first-from-least, none-from-left}
-use Rattle.cumulative.specs.Table.{fromOf, leap}
+use Rattle.sure_parts.specs.Table.{fromOf}
+use Rattle.cumulative.specs.Steps.{leap}
 use Rattle.cumulative.specs.Leaps.{Tables, Leapt, free, onward, leapt}
 
 -- s is a start left, and all before it are blocked

@@ -20,10 +20,11 @@ use Rattle.meaning.specs.Model.{Activity}
 use Rattle.meaning.specs.Rule.{surely, sure, overloaded, blockedFrom}
 use Rattle.meaning.specs.Proved.Below.{up-to}
 use Rattle.meaning.specs.Proved.Loads.{sure-some, overloaded-by, Blocked, blocked-of}
-use Rattle.cumulative.specs.Jumps.{ending, sure-rises}
+use Rattle.sure_parts.specs.Parts.{ending}
+use Rattle.cumulative.specs.Jumps.{sure-rises}
 use Rattle.meaning.specs.Proved.Positions.{othersOf, sum-others, squeezedAt}
-use Rattle.cumulative.specs.Table.{untilOf, usageOf, Loads}
-use Rattle.cumulative.specs.Parts.{load-is}
+use Rattle.sure_parts.specs.Table.{untilOf, usageOf, mostLoad, Loads}
+use Rattle.sure_parts.specs.Parts.{load-is}
 use Rattle.cumulative.specs.Leaps.{Tables}
 
 -- the largest of the first n, 0 at least
@@ -74,7 +75,7 @@ module _ (peaks : List ℤ) where
       go : (t : ℤ) → Top n t → Top (suc n) (maxZ t at)
       go t f = ⊎-elim (λ h. rw h (higher t f h)) (λ h. rw h (lower t f h)) (tested (leZ t at))
 
-pub top-upto : (peaks : List ℤ) (n : ℕ) → Loads peaks → n ≤ mostParts → topOf peaks n ≤ℤ pos 16000000
+pub top-upto : (peaks : List ℤ) (n : ℕ) → Loads peaks → n ≤ mostParts → topOf peaks n ≤ℤ pos mostLoad
 top-upto peaks n small few = ⊎-elim (λ e. omega (arith, zz)) (λ g. let (k, l, e) = g in rw e (small .small k (omega arith) .1)) (top-is peaks n .one)
 
 module _ (d : ℕ → List ℤ) (rising : (x : ℕ) → Rising (d x)) (nobody : Activity) (acts : List Activity) (n : ℕ) (ps peaks : List ℤ) (tables : Tables d nobody acts n ps peaks) where

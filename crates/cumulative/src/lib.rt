@@ -9,8 +9,12 @@
 //   covers it. The next start worth a try is e.
 // Where neither is so, s is free. Each leap but the last goes to an end of a sure part: there are hardly more leaps than activities,
 // however long they last.
+use reading::limits::MOST_PARTS;
 use reading::number_at;
 use reading::variable_at;
+use sure_parts::ENDS_FROM;
+use sure_parts::TABLE_LENGTH;
+use sure_parts::USAGES_FROM;
 ghost use mathlib.Core.Path.{_≡_};
 ghost use mathlib.Core.Bool.{_||_};
 ghost use mathlib.Core.List.{[]};
@@ -25,57 +29,27 @@ ghost use Rattle.reading.specs.At.{natAt, eachAt};
 ghost use Rattle.model.specs.Rows.{activityAt, Counted, ActivitiesIn};
 ghost use Rattle.domain.specs.Box.{variables, values};
 ghost use Rattle.rule_facts.specs.Ready.{Ready};
-ghost use Rattle.cumulative.specs.Table.{fromOf, usedAt, load, overBy, nearer, nextEnd, later, lastBad, leap, Sized, Loads, Capacity, Start};
-ghost use Rattle.cumulative.specs.Fill.{Peaked, partPut, Filled, ActivityIn};
+ghost use Rattle.sure_parts.specs.Table.{tableLength, fromOf, mostLoad, Sized, Loads};
+ghost use Rattle.cumulative.specs.Steps.{overBy, nearer, nextEnd, later, lastBad, leap, Capacity, Start};
 ghost use Rattle.cumulative.specs.Top.{topOf};
 ghost use Rattle.cumulative.specs.Row.{squeezes, Prepared};
 
-// What activity k surely uses at t.
-fn used_at(parts: &[i32], k: usize, t: i32) -> i32
-    requires { ⌜ (k < mostParts) × (length (now parts) ≡ 48) ⌝ }
-    ensures { λ r. ⌜ r ≡ usedAt (now (parts .entry)) t k ⌝ }
-{
-    let from = parts[k];
-    let until = parts[k + 16];
-    let usage = parts[k + 32];
-    if from <= t {
-        if t < until {
-            return usage;
-        }
-    }
-    0
-}
-
-// What the first n activities surely use at t.
-fn sure_at(parts: &[i32], n: usize, t: i32) -> i32
-    requires { ⌜ (n ≤ mostParts) × Sized (now parts) ⌝ }
-    ensures { λ r. ⌜ r ≡ load (now (parts .entry)) t n ⌝ }
-{
-    let mut sum: i32 = 0;
-    let mut k: usize = 0;
-    while k < n {
-        sum += used_at(parts, k, t);
-        k += 1;
-    }
-    sum
-}
-
 // Whether activity i and the sure parts of the others use more than the capacity at t, a time when all surely use `load`.
 fn over(parts: &[i32], i: usize, t: i32, load: i32, capacity: i32) -> bool
-    requires { ⌜ (i < mostParts) × Sized (now parts) × Capacity capacity × (pos 0 ≤ℤ load) × (load ≤ℤ pos 16000000) ⌝ }
+    requires { ⌜ (i < mostParts) × Sized (now parts) × Capacity capacity × (pos 0 ≤ℤ load) × (load ≤ℤ pos mostLoad) ⌝ }
     ensures { λ r. ⌜ r ≡ overBy (now (parts .entry)) capacity i t load ⌝ }
 {
-    let usage = parts[i + 32];
-    let own = used_at(parts, i, t);
+    let usage = parts[i + USAGES_FROM];
+    let own = sure_parts::used_at(parts, i, t);
     capacity + own < usage + load
 }
 
 // The end of activity k's sure part, where it comes after t and before u; else u. Activity i does not count.
 fn nearer_end(parts: &[i32], i: usize, t: i32, k: usize, u: i32) -> i32
-    requires { ⌜ (k < mostParts) × (length (now parts) ≡ 48) ⌝ }
+    requires { ⌜ (k < mostParts) × (length (now parts) ≡ tableLength) ⌝ }
     ensures { λ r. ⌜ r ≡ nearer (now (parts .entry)) i t k u ⌝ }
 {
-    let end = parts[k + 16];
+    let end = parts[k + ENDS_FROM];
     if k == i {
         return u;
     }
@@ -114,7 +88,7 @@ fn later_end(
     requires { ⌜ (k < mostParts) × (i < mostParts) × Sized (now parts) × Loads (now peaks) × Capacity capacity ⌝ }
     ensures { λ r. ⌜ r ≡ later (now (parts .entry)) (now (peaks .entry)) capacity i stop k e ⌝ }
 {
-    let until = parts[k + 16];
+    let until = parts[k + ENDS_FROM];
     let peak = peaks[k];
     if e < until {
         if until <= stop {
@@ -163,52 +137,11 @@ fn leap_from(
 {
     let stop = s + lasts;
     let last = stop - 1;
-    let load = sure_at(parts, n, last);
+    let load = sure_parts::sure_at(parts, n, last);
     if over(parts, i, last, load, capacity) {
         return next_end(parts, n, i, last);
     }
     last_bad(parts, peaks, n, capacity, i, s, stop)
-}
-
-// Stores the sure part of the activity at `at` of the model as activity k's.
-fn fill_part(model: &[i32], at: usize, cells: &[i32], parts: &mut [i32], k: usize)
-    requires { ⌜ (k < mostParts) × ActivityIn (variables (now cells)) (now model) at × Ready (now cells) × (length (now parts) ≡ 48) ⌝ }
-    ensures { λ _. ⌜ now (parts .exit) ≡ partPut (values (now (cells .entry))) (activityAt (now (model .entry)) at) k (now (parts .entry)) ⌝ }
-{
-    let x = variable_at(model, at);
-    let lasts = model[at + 1];
-    let usage = model[at + 2];
-    let from = domain::largest(cells, x);
-    let until = domain::least(cells, x) + lasts;
-    parts[k] = from;
-    parts[k + 16] = until;
-    parts[k + 32] = usage;
-}
-
-// Stores the sure parts of n activities, which begin at q of the model.
-fn fill_parts(model: &[i32], q: usize, n: usize, cells: &[i32], parts: &mut [i32])
-    requires { ⌜ (n ≤ mostParts) × ActivitiesIn (variables (now cells)) (now model) q n × Ready (now cells) × Sized (now parts) ⌝ }
-    ensures { λ _. ⌜ Filled (values (now (cells .entry))) (now (model .entry)) q n (now (parts .exit)) ⌝ }
-{
-    let mut k: usize = 0;
-    while k < n {
-        fill_part(model, q + k * 3, cells, &mut *parts, k);
-        k += 1;
-    }
-}
-
-// Stores what is surely in use just before the end of each of n sure parts.
-fn fill_peaks(parts: &[i32], n: usize, peaks: &mut [i32])
-    requires { ⌜ (n ≤ mostParts) × Sized (now parts) × Loads (now peaks) ⌝ }
-    ensures { λ _. ⌜ Peaked (now (parts .entry)) n n (now (peaks .exit)) ⌝ }
-{
-    let mut k: usize = 0;
-    while k < n {
-        let until = parts[k + 16];
-        let load = sure_at(parts, n, until - 1);
-        peaks[k] = load;
-        k += 1;
-    }
 }
 
 // Whether every start left to activity i is blocked. The search goes on from a start that is blocked at the next start left past its leap.
@@ -229,7 +162,7 @@ fn squeezed_at(
     let x = variable_at(model, at);
     let lasts = model[at + 1];
     let last = parts[i];
-    let mut s = parts[i + 16] - lasts;
+    let mut s = parts[i + ENDS_FROM] - lasts;
     loop {
         let u = leap_from(parts, peaks, n, capacity, i, s, lasts);
         if u <= s {
@@ -275,7 +208,7 @@ fn some_squeezed(model: &[i32], p: usize, cells: &[i32], parts: &[i32], peaks: &
     let room = capacity - top;
     let mut i: usize = 0;
     while i < n {
-        let usage = parts[i + 32];
+        let usage = parts[i + USAGES_FROM];
         if room < usage {
             if squeezed_at(model, p, cells, parts, peaks, i) {
                 return true;
@@ -293,9 +226,9 @@ pub fn conflicts(model: &[i32], p: usize, cells: &[i32]) -> bool
     ensures { λ r. ⌜ r ≡ (overloaded (values (now (cells .entry))) (natAt (now (model .entry)) (p + 1)) (eachAt activityAt 3 (natAt (now (model .entry)) p) (now (model .entry)) (p + 2)) || squeezed (values (now (cells .entry))) (natAt (now (model .entry)) (p + 1)) [] (eachAt activityAt 3 (natAt (now (model .entry)) p) (now (model .entry)) (p + 2))) ⌝ }
 {
     let n = number_at(model, p);
-    let mut parts = [0i32; 48];
-    let mut peaks = [0i32; 16];
-    fill_parts(model, p + 2, n, cells, &mut parts);
-    fill_peaks(&parts, n, &mut peaks);
+    let mut parts = [0i32; TABLE_LENGTH];
+    let mut peaks = [0i32; MOST_PARTS];
+    sure_parts::fill_parts(model, p + 2, n, cells, &mut parts);
+    sure_parts::fill_peaks(&parts, n, &mut peaks);
     some_squeezed(model, p, cells, &parts, &peaks)
 }

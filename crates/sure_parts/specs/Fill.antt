@@ -10,18 +10,18 @@ use lib.IntN.{ℤ, pos, negsuc, natAbs, _-ℤ_}
 use lib.ListN.{length, getD, set, length-set, replicate, length-replicate, getD-replicate}
 use lib.Seq.{getD-set-same, getD-set-other}
 use lib.Signed.{_≤ℤ_}
+use Rattle.meaning.specs.Read.{neg}
 use Rattle.meaning.specs.Limits.{mostValue, mostUsage, mostDuration, mostParts}
 use Rattle.words.specs.Int.{zz, abs-is}
 use Rattle.words.specs.Lists.{least, largest}
 use Rattle.words.specs.ListFacts.{tested}
 use Rattle.meaning.specs.Model.{Activity}
-use Rattle.cumulative.specs.Jumps.{ending}
 use Rattle.reading.specs.At.{Names}
 use Rattle.model.specs.Rows.{activityAt, ActivitiesIn}
 use Rattle.rule_facts.specs.Ready as ready
-use Rattle.cumulative.specs.Table.{fromOf, untilOf, usageOf, peak, Sized, Loads}
-use Rattle.cumulative.specs.Facts.{load-small}
-use Rattle.cumulative.specs.Parts.{Part}
+use Rattle.sure_parts.specs.Table.{endsFrom, usagesFrom, tableLength, fromOf, untilOf, usageOf, peak, latestEnd, mostLoad, Sized, Loads}
+use Rattle.sure_parts.specs.Sizes.{load-small}
+use Rattle.sure_parts.specs.Parts.{ending, Part}
 
 -- what holds at k, and at j where j is another place, holds at j
 same-or-other : (Q : ℕ → Type 0) (k j : ℕ) → Q k → (j ≢ k → Q j) → Q j
@@ -48,7 +48,7 @@ module _ (ps : List ℤ) (n : ℕ) (peaks : List ℤ) where
       record {
         loads = record {
           long = length-set peaks k (peak ps n k) ∙ long;
-          small = λ j m. same-or-other (λ z. (pos 0 ≤ℤ getD after z (pos 0)) × (getD after z (pos 0) ≤ℤ pos 16000000)) k j (rw same (b .0, omega (arith, zz))) (λ ne. rw (other j ne) (f .loads .small j m));
+          small = λ j m. same-or-other (λ z. (pos 0 ≤ℤ getD after z (pos 0)) × (getD after z (pos 0) ≤ℤ pos mostLoad)) k j (rw same (b .0, omega (arith, zz))) (λ ne. rw (other j ne) (f .loads .small j m));
         };
         each = λ j m. same-or-other (λ z. getD after z (pos 0) ≡ peak ps n z) k j same (λ ne. other j ne ∙ f .each j (omega (arith, ne)));
       }
@@ -56,59 +56,59 @@ module _ (ps : List ℤ) (n : ℕ) (peaks : List ℤ) where
 -- ---- the sure parts
 -- the table with the sure part of an activity at place k
 abbrev pub partPut : (ℕ → List ℤ) → Activity → ℕ → List ℤ → List ℤ
-partPut d a k ps = set (set (set ps k (largest (d (a .start)))) (k + 16) (ending d a)) (k + 32) (pos (a .usage))
+partPut d a k ps = set (set (set ps k (largest (d (a .start)))) (k + endsFrom) (ending d a)) (k + usagesFrom) (pos (a .usage))
 
 -- the first k places are filled
 pub record Filled (d : ℕ → List ℤ) (m : List ℤ) (q k : ℕ) (ps : List ℤ) : Type 0 where
   pub sized : Sized ps
   pub parts : (j : ℕ) → j < k → Part d (activityAt m (q + j * 3)) ps j
 
-module _ (ps : List ℤ) (k : ℕ) (a e u : ℤ) (here : k < mostParts) (long : length ps ≡ 48) where
+module _ (ps : List ℤ) (k : ℕ) (a e u : ℤ) (here : k < mostParts) (long : length ps ≡ tableLength) where
   abbrev put : List ℤ
-  put = set (set (set ps k a) (k + 16) e) (k + 32) u
+  put = set (set (set ps k a) (k + endsFrom) e) (k + usagesFrom) u
 
   abbrev one : List ℤ
   one = set ps k a
 
   abbrev two : List ℤ
-  two = set one (k + 16) e
+  two = set one (k + endsFrom) e
 
-  put-long : length put ≡ 48
+  put-long : length put ≡ tableLength
   put-long = simp length-set long
 
   from-same : fromOf put k ≡ a
-  from-same = getD-set-other two (k + 32) k u (pos 0) (omega arith) ∙ getD-set-other one (k + 16) k e (pos 0) (omega arith) ∙ getD-set-same ps k a (pos 0) (omega arith)
+  from-same = getD-set-other two (k + usagesFrom) k u (pos 0) (omega arith) ∙ getD-set-other one (k + endsFrom) k e (pos 0) (omega arith) ∙ getD-set-same ps k a (pos 0) (omega arith)
 
   until-same : untilOf put k ≡ e
-  until-same = getD-set-other two (k + 32) (k + 16) u (pos 0) (omega arith) ∙ getD-set-same one (k + 16) e (pos 0) (simp length-set (omega arith))
+  until-same = getD-set-other two (k + usagesFrom) (k + endsFrom) u (pos 0) (omega arith) ∙ getD-set-same one (k + endsFrom) e (pos 0) (simp length-set (omega arith))
 
   usage-same : usageOf put k ≡ u
-  usage-same = getD-set-same two (k + 32) u (pos 0) (simp length-set (omega arith))
+  usage-same = getD-set-same two (k + usagesFrom) u (pos 0) (simp length-set (omega arith))
 
   -- a word that stands nowhere of these three stays
-  stays : (z : ℕ) → z ≢ k → z ≢ k + 16 → z ≢ k + 32 → getD put z (pos 0) ≡ getD ps z (pos 0)
-  stays z x y w = getD-set-other two (k + 32) z u (pos 0) w ∙ getD-set-other one (k + 16) z e (pos 0) y ∙ getD-set-other ps k z a (pos 0) x
+  stays : (z : ℕ) → z ≢ k → z ≢ k + endsFrom → z ≢ k + usagesFrom → getD put z (pos 0) ≡ getD ps z (pos 0)
+  stays z x y w = getD-set-other two (k + usagesFrom) z u (pos 0) w ∙ getD-set-other one (k + endsFrom) z e (pos 0) y ∙ getD-set-other ps k z a (pos 0) x
 
   module _ (j : ℕ) (l : j < mostParts) (ne : j ≢ k) where
     from-other : fromOf put j ≡ fromOf ps j
     from-other = stays j ne (omega arith) (omega arith)
 
     until-other : untilOf put j ≡ untilOf ps j
-    until-other = stays (j + 16) (omega arith) (λ x. ne (omega arith)) (omega arith)
+    until-other = stays (j + endsFrom) (omega arith) (λ x. ne (omega arith)) (omega arith)
 
     usage-other : usageOf put j ≡ usageOf ps j
-    usage-other = stays (j + 32) (omega arith) (omega arith) (λ x. ne (omega arith))
+    usage-other = stays (j + usagesFrom) (omega arith) (omega arith) (λ x. ne (omega arith))
 
 -- values of a box that is judged are small, and so are the least and the largest
 module _ (vs : List ℤ) (small : (v : ℤ) → In v vs → natAbs v ≤ mostValue) where
-  in-range : (v : ℤ) → natAbs v ≤ mostValue → (negsuc 99999 ≤ℤ v) × (v ≤ℤ pos 100000)
+  in-range : (v : ℤ) → natAbs v ≤ mostValue → (neg mostValue ≤ℤ v) × (v ≤ℤ pos mostValue)
   in-range v h = (omega (arith, zz, abs-is v), omega (arith, zz, abs-is v))
 
-  pub least-small : (negsuc 99999 ≤ℤ least vs) × (least vs ≤ℤ pos 100000)
-  least-small = in-range (least vs) (ready.least-small 100000 vs small)
+  pub least-small : (neg mostValue ≤ℤ least vs) × (least vs ≤ℤ pos mostValue)
+  least-small = in-range (least vs) (ready.least-small mostValue vs small)
 
-  pub largest-small : (negsuc 99999 ≤ℤ largest vs) × (largest vs ≤ℤ pos 100000)
-  largest-small = in-range (largest vs) (ready.largest-small 100000 vs small)
+  pub largest-small : (neg mostValue ≤ℤ largest vs) × (largest vs ≤ℤ pos mostValue)
+  largest-small = in-range (largest vs) (ready.largest-small mostValue vs small)
 
 -- the words of one activity
 pub record ActivityIn (v : ℕ) (m : List ℤ) (p : ℕ) : Type 0 where
@@ -130,7 +130,7 @@ module _ (d : ℕ → List ℤ) (small : (x : ℕ) (v : ℤ) → In v (d x) → 
   act = activityAt m p
 
   -- the sure part's end is a word
-  pub ending-small : (negsuc 99999 ≤ℤ ending d act) × (ending d act ≤ℤ pos 110000)
+  pub ending-small : (neg mostValue ≤ℤ ending d act) × (ending d act ≤ℤ pos latestEnd)
   ending-small =
       let a = least-small (d (act .start)) (small (act .start)) in
       let b = ok .lasting in
@@ -149,8 +149,8 @@ module _ (d : ℕ → List ℤ) (small : (x : ℕ) (v : ℤ) → In v (d x) → 
         let l = sized .long in
         record {
           long = put-long ps k _ _ _ here l;
-          starts = λ j b. same-or-other (λ z. (negsuc 99999 ≤ℤ fromOf after z) × (fromOf after z ≤ℤ pos 100000)) k j (rw (from-same ps k _ _ _ here l) (largest-small (d (act .start)) (small (act .start)))) (λ ne. rw (from-other ps k _ _ _ here l j b ne) (sized .starts j b));
-          ends = λ j b. same-or-other (λ z. (negsuc 99999 ≤ℤ untilOf after z) × (untilOf after z ≤ℤ pos 110000)) k j (rw (until-same ps k _ _ _ here l) ending-small) (λ ne. rw (until-other ps k _ _ _ here l j b ne) (sized .ends j b));
+          starts = λ j b. same-or-other (λ z. (neg mostValue ≤ℤ fromOf after z) × (fromOf after z ≤ℤ pos mostValue)) k j (rw (from-same ps k _ _ _ here l) (largest-small (d (act .start)) (small (act .start)))) (λ ne. rw (from-other ps k _ _ _ here l j b ne) (sized .starts j b));
+          ends = λ j b. same-or-other (λ z. (neg mostValue ≤ℤ untilOf after z) × (untilOf after z ≤ℤ pos latestEnd)) k j (rw (until-same ps k _ _ _ here l) ending-small) (λ ne. rw (until-other ps k _ _ _ here l j b ne) (sized .ends j b));
           usages = λ j b. same-or-other (λ z. (pos 0 ≤ℤ usageOf after z) × (usageOf after z ≤ℤ pos mostUsage)) k j (rw (usage-same ps k _ _ _ here l) usage-small) (λ ne. rw (usage-other ps k _ _ _ here l j b ne) (sized .usages j b));
         }
 
@@ -179,14 +179,14 @@ module _ (d : ℕ → List ℤ) (m : List ℤ) (q : ℕ) (ps : List ℤ) where
 zeros : (n i : ℕ) → i < n → getD (replicate n (pos 0)) i (pos 0) ≡ pos 0
 zeros n i h = getD-replicate n i (pos 0) (pos 0) h
 
-pub sized-zeros : Sized (replicate 48 (pos 0))
+pub sized-zeros : Sized (replicate tableLength (pos 0))
 sized-zeros =
     record {
-      long = length-replicate 48 (pos 0);
-      starts = λ k h. rw (zeros 48 k (omega arith)) (omega (arith, zz), omega (arith, zz));
-      ends = λ k h. rw (zeros 48 (k + 16) (omega arith)) (omega (arith, zz), omega (arith, zz));
-      usages = λ k h. rw (zeros 48 (k + 32) (omega arith)) (omega (arith, zz), omega (arith, zz));
+      long = length-replicate tableLength (pos 0);
+      starts = λ k h. rw (zeros tableLength k (omega arith)) (omega (arith, zz), omega (arith, zz));
+      ends = λ k h. rw (zeros tableLength (k + endsFrom) (omega arith)) (omega (arith, zz), omega (arith, zz));
+      usages = λ k h. rw (zeros tableLength (k + usagesFrom) (omega arith)) (omega (arith, zz), omega (arith, zz));
     }
 
-pub loads-zeros : Loads (replicate 16 (pos 0))
-loads-zeros = record { long = length-replicate 16 (pos 0); small = λ k h. rw (zeros 16 k h) (omega (arith, zz), omega (arith, zz)) }
+pub loads-zeros : Loads (replicate mostParts (pos 0))
+loads-zeros = record { long = length-replicate mostParts (pos 0); small = λ k h. rw (zeros mostParts k h) (omega (arith, zz), omega (arith, zz)) }

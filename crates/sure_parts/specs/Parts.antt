@@ -4,28 +4,24 @@ use mathlib.Core.Path.{_≡_, refl, sym, ap, _∙_}
 use mathlib.Core.Bool.{Bool, true, false, cond}
 use mathlib.Core.List.{List, [], append-nil}
 use native.Mathlib.Omega.{arith}
-use borrow.Author.Tests.{ltb-true, lt-ltb}
-use lib.Dec.{ltb}
 use lib.IntN.{ℤ, pos, _+ℤ_}
 use lib.ListN.{length, getD, take}
 use lib.Seq.{take-suc, take-all}
-use lib.Signed.{ltZ}
-use Rattle.words.specs.Lists.{sumOf, largest}
-use Rattle.words.specs.ListFacts.{same-test, sum-part}
+use Rattle.words.specs.Lists.{sumOf, least, largest}
+use Rattle.words.specs.ListFacts.{sum-part}
 use Rattle.meaning.specs.Model.{Activity}
 use Rattle.meaning.specs.Rule.{during, usageIf, surely, sure}
-use Rattle.cumulative.specs.Jumps.{ending, bad}
-use Rattle.meaning.specs.Proved.Positions.{othersOf, sum-others}
-use Rattle.cumulative.specs.Table.{fromOf, untilOf, usageOf, usedAt, load, over}
+use Rattle.sure_parts.specs.Table.{fromOf, untilOf, usageOf, usedAt, load}
+
+-- where the sure part of an activity ends, if it has one
+abbrev pub ending : (ℕ → List ℤ) → Activity → ℤ
+ending d j = least (d (j .start)) +ℤ pos (j .duration)
 
 -- place k of the table holds the sure part of the activity j
 pub record Part (d : ℕ → List ℤ) (j : Activity) (ps : List ℤ) (k : ℕ) : Type 0 where
   pub from-is : fromOf ps k ≡ largest (d (j .start))
   pub until-is : untilOf ps k ≡ ending d j
   pub usage-is : usageOf ps k ≡ pos (j .usage)
-
-in-naturals : (c : ℕ) (a b l : ℤ) (own u total : ℕ) → a ≡ pos own → b ≡ pos u → l ≡ pos total → ltZ (pos c +ℤ a) (b +ℤ l) ≡ ltb (c + own) (u + total)
-in-naturals c a b l own u total p q r = rw (p, q, r)
 
 module _ (d : ℕ → List ℤ) (ps : List ℤ) (t : ℤ) where
   either : (b : Bool) (u : ℕ) → cond b (pos u) (pos 0) ≡ pos (usageIf b u)
@@ -52,14 +48,3 @@ module _ (d : ℕ → List ℤ) (ps : List ℤ) (t : ℤ) where
     -- all activities together
     pub load-is : (n : ℕ) → length acts ≡ n → ((k : ℕ) → k < n → Part d (getD acts k none) ps k) → load ps t n ≡ pos (sure d t acts)
     load-is n e f = load-first n (omega arith) f ∙ ap (λ js. pos (sure d t js)) (take-all n acts (omega arith))
-
-    -- activity i beside the sure parts of the others
-    pub over-is : (n c i : ℕ) → length acts ≡ n → i < n → ((k : ℕ) → k < n → Part d (getD acts k none) ps k)
-        → over ps n (pos c) i t ≡ bad d c (getD acts i none) (othersOf i acts) t
-    over-is n c i e l f =
-        let j = getD acts i none in
-        let total = sum-others (surely d t) acts i none (omega arith) in
-        in-naturals c _ _ _ (surely d t j) (j .usage) (sure d t acts) (used-is j i (f i l)) (f i l .usage-is) (load-is n e f)
-        ∙ same-test (ltb (c + surely d t j) (j .usage + sure d t acts)) (ltb c (j .usage + sure d t (othersOf i acts)))
-        (λ h. lt-ltb c (j .usage + sure d t (othersOf i acts)) (omega (arith, ltb-true (c + surely d t j) (j .usage + sure d t acts) h)))
-        (λ h. lt-ltb (c + surely d t j) (j .usage + sure d t acts) (omega (arith, ltb-true c (j .usage + sure d t (othersOf i acts)) h)))

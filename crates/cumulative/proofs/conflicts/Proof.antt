@@ -2,15 +2,16 @@
 use Prim.Native.Nat.{_+_, _≤_}
 use borrow.Author.Needs.{needs}
 use denote.Ref.{now}
+use Rattle.meaning.specs.Limits.{mostParts}
 use Rattle.model.specs.Rows.{ActivitiesIn}
 use Rattle.domain.specs.Box.{variables}
-use Rattle.cumulative.specs.Fill.{sized-zeros, loads-zeros}
+use Rattle.sure_parts.specs.Fill.{sized-zeros, loads-zeros}
 use Rattle.cumulative.specs.Row.{by-activity}
 use Rattle.cumulative.proofs.conflicts.Statement.{statement}
 use Rattle.cumulative.proofs.conflicts.Tie as tie
 
 -- the number of activities is that of the row
-few : (c : tie.After-number-at) → c .number-at .result ≤ 16
+few : (c : tie.After-number-at) → c .number-at .result ≤ mostParts
 few c = rw (c .number-at .ensures) (c .before .pre .0 .upto)
 
 fill-parts-requires : tie.Need-fill-parts-requires

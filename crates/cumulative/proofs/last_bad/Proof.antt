@@ -7,9 +7,10 @@ use denote.Ref.{now}
 use mir.Syntax.{w32}
 use mir.Val.{toZ}
 use mir.Facts.{toZ-ofZ}
+use Rattle.meaning.specs.Limits.{mostParts}
 use Rattle.words.specs.Int.{fit}
-use Rattle.cumulative.specs.Table.{lastBad}
-use Rattle.cumulative.specs.Facts.{bad-none, bad-more}
+use Rattle.cumulative.specs.Steps.{lastBad}
+use Rattle.cumulative.specs.Turns.{bad-none, bad-more}
 use Rattle.cumulative.proofs.last_bad.Statement.{statement}
 use Rattle.cumulative.proofs.last_bad.Tie as tie
 
@@ -26,7 +27,7 @@ later-end-requires : tie.Need-later-end-requires Inv-loop μ-loop
 later-end-requires c κs =
     let s = c .before .before in
     let f = s .fits .capacity in
-    let h : c .before .loop .k < 16 = omega (arith, s .pre) in
+    let h : c .before .loop .k < mostParts = omega (arith, s .pre) in
     simp toZ-ofZ (h, s .pre .1, s .pre .2, s .pre .3, s .pre .4)
 
 loop-again : tie.Need-loop-again Inv-loop μ-loop

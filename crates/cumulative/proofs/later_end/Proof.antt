@@ -9,8 +9,9 @@ use mir.Syntax.{w32}
 use mir.Val.{SFits}
 use mir.Facts.{toZ-ofZ}
 use Rattle.words.specs.Int.{zz, fit, le32-t, le32-f, lt32-t, lt32-f}
-use Rattle.cumulative.specs.Table.{untilOf, overBy}
-use Rattle.cumulative.specs.Facts.{near-fits}
+use Rattle.sure_parts.specs.Table.{untilOf}
+use Rattle.cumulative.specs.Steps.{overBy}
+use Rattle.sure_parts.specs.Sizes.{near-fits}
 use Rattle.cumulative.proofs.later_end.Statement.{statement}
 use Rattle.cumulative.proofs.later_end.Tie as tie
 

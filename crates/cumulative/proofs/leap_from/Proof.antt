@@ -9,8 +9,10 @@ use mir.Syntax.{w32}
 use mir.Val.{SFits}
 use mir.Facts.{toZ-ofZ}
 use Rattle.words.specs.Int.{zz, fit}
-use Rattle.cumulative.specs.Table.{load, over}
-use Rattle.cumulative.specs.Facts.{start-fits, load-small, leap-over, leap-under}
+use Rattle.sure_parts.specs.Table.{load, mostLoad}
+use Rattle.cumulative.specs.Steps.{over}
+use Rattle.cumulative.specs.Turns.{start-fits, leap-over, leap-under}
+use Rattle.sure_parts.specs.Sizes.{load-small}
 use Rattle.cumulative.proofs.leap_from.Statement.{statement}
 use Rattle.cumulative.proofs.leap_from.Tie as tie
 
@@ -41,7 +43,7 @@ over-requires c κs =
     let b = load-small _ (s .pre .2) ((s .args .s +ℤ s .args .lasts) -ℤ pos 1) (s .args .n) (s .pre .0) in
     let e = sure-then c in
     let few = s .pre .0 in
-    let l : (pos 0 ≤ℤ c .sure-at .result) × (c .sure-at .result ≤ℤ pos 16000000) = rw e (b .0, omega (arith, zz)) in
+    let l : (pos 0 ≤ℤ c .sure-at .result) × (c .sure-at .result ≤ℤ pos mostLoad) = rw e (b .0, omega (arith, zz)) in
     simp toZ-ofZ (s .pre .1, s .pre .2, s .pre .4, l .0, l .1)
 
 -- whether the last time is bad

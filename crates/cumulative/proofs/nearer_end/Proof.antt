@@ -5,7 +5,7 @@ use denote.Ref.{now}
 use mir.Syntax.{w32}
 use mir.Facts.{toZ-ofZ}
 use Rattle.words.specs.Int.{fit, lt32-t, lt32-f}
-use Rattle.cumulative.specs.Table.{untilOf}
+use Rattle.sure_parts.specs.Table.{untilOf}
 use Rattle.cumulative.proofs.nearer_end.Statement.{statement}
 use Rattle.cumulative.proofs.nearer_end.Tie as tie
 

@@ -9,8 +9,10 @@ use mir.Syntax.{w32}
 use mir.Val.{toZ, SFits}
 use mir.Facts.{toZ-ofZ}
 use Rattle.words.specs.Int.{zz, fit}
-use Rattle.cumulative.specs.Table.{fromOf, nextEnd}
-use Rattle.cumulative.specs.Facts.{next-none, next-more, near-fits}
+use Rattle.sure_parts.specs.Table.{fromOf}
+use Rattle.cumulative.specs.Steps.{nextEnd}
+use Rattle.cumulative.specs.Turns.{next-none, next-more}
+use Rattle.sure_parts.specs.Sizes.{near-fits}
 use Rattle.cumulative.proofs.next_end.Statement.{statement}
 use Rattle.cumulative.proofs.next_end.Tie as tie
 

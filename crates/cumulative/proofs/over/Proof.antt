@@ -8,9 +8,10 @@ use denote.Ref.{now}
 use mir.Syntax.{w32}
 use mir.Val.{SFits}
 use mir.Facts.{toZ-ofZ}
+use Rattle.meaning.specs.Limits.{mostUsage}
 use Rattle.words.specs.Int.{zz, fit}
-use Rattle.cumulative.specs.Table.{usageOf, usedAt}
-use Rattle.cumulative.specs.Facts.{used-small, sum-fits}
+use Rattle.sure_parts.specs.Table.{usageOf, usedAt}
+use Rattle.sure_parts.specs.Sizes.{used-small, sum-fits}
 use Rattle.cumulative.proofs.over.Statement.{statement}
 use Rattle.cumulative.proofs.over.Tie as tie
 
@@ -20,7 +21,7 @@ sums c =
     let f = s .fits .t in
     let e : c .used-at .result ≡ usedAt (now (s .args .parts)) (s .args .t) (s .args .i) = simp toZ-ofZ at (c .used-at .ensures) in
     let u = s .pre .1 .usages (s .args .i) (s .pre .0) in
-    let o : (pos 0 ≤ℤ c .used-at .result) × (c .used-at .result ≤ℤ pos 1000000) = rw e (used-small _ (s .pre .1) (s .args .t) (s .args .i) (s .pre .0)) in
+    let o : (pos 0 ≤ℤ c .used-at .result) × (c .used-at .result ≤ℤ pos mostUsage) = rw e (used-small _ (s .pre .1) (s .args .t) (s .args .i) (s .pre .0)) in
     let p = s .pre .2 in
     (e, sum-fits (s .args .capacity) (c .used-at .result) (omega (arith, zz)) (omega (arith, zz)), sum-fits (usageOf (now (s .args .parts)) (s .args .i)) (s .args .load) (omega (arith, zz)) (s .pre .3, s .pre .4))
 

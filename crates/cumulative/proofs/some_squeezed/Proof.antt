@@ -16,8 +16,9 @@ use Rattle.words.specs.Int.{zz, fit, lt32-f}
 use Rattle.meaning.specs.Proved.Below.{someBelow, some-holds}
 use Rattle.reading.specs.At.{natAt}
 use Rattle.domain.specs.Box.{values}
-use Rattle.cumulative.specs.Table.{usageOf}
-use Rattle.cumulative.specs.Facts.{diff-fits, not-below}
+use Rattle.sure_parts.specs.Table.{usageOf}
+use Rattle.sure_parts.specs.Sizes.{diff-fits}
+use Rattle.cumulative.specs.Turns.{not-below}
 use Rattle.cumulative.specs.Top.{topOf}
 use Rattle.cumulative.specs.Row.{squeezes, row-overload, row-fits, top-small, none-more}
 use Rattle.cumulative.proofs.some_squeezed.Statement.{statement}

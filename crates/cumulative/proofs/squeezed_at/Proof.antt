@@ -10,14 +10,16 @@ use denote.Ref.{now}
 use mir.Syntax.{w32}
 use mir.Val.{toZ, SFits}
 use mir.Facts.{toZ-ofZ}
+use Rattle.meaning.specs.Limits.{mostParts}
 use Rattle.words.specs.Int.{zz, fit, pp, nn}
 use Rattle.reading.specs.At.{natAt}
 use Rattle.domain.specs.Sets.{firstFrom}
 use Rattle.domain.specs.Told.{toldNext}
 use Rattle.domain.specs.Box.{variables, values}
-use Rattle.cumulative.specs.Table.{fromOf, untilOf, leap}
-use Rattle.cumulative.specs.Facts.{small-fits}
-use Rattle.cumulative.specs.Fill.{ActivityIn}
+use Rattle.sure_parts.specs.Table.{fromOf, untilOf}
+use Rattle.cumulative.specs.Steps.{leap}
+use Rattle.sure_parts.specs.Sizes.{small-fits}
+use Rattle.sure_parts.specs.Fill.{ActivityIn}
 use Rattle.cumulative.specs.Search.{Searching}
 use Rattle.cumulative.specs.Row.{activities, nobody, own-activity, try-start, try-small, try-free, try-beyond, try-none, try-on}
 use Rattle.cumulative.proofs.squeezed_at.Statement.{statement}
@@ -45,7 +47,7 @@ shared-slice-copy-out-capacity c = c .before .pre .1 .row .inside
 reads : (c : tie.Start Inv-loop μ-loop) → ActivityIn (variables (now (c .args .cells))) (now (c .args .model)) (c .args .p + 2 + c .args .i * 3)
 reads c = own-activity _ _ _ _ _ (c .pre .1) _ (c .pre .0)
 
-few : (c : tie.Start Inv-loop μ-loop) → c .args .i < 16
+few : (c : tie.Start Inv-loop μ-loop) → c .args .i < mostParts
 few c = omega (arith, c .pre .0, c .pre .1 .row .counted .upto)
 
 add-at : tie.Need-add-at Inv-loop μ-loop
@@ -113,7 +115,7 @@ leap-from-requires c κs =
     let f = fit w32 (getD m (s .args .p + 1) (pos 0)) (c .before .before .before .before .before .capacity .given) in
     let g = fit w32 (getD m (s .args .p + 2 + s .args .i * 3 + 1) (pos 0)) (c .before .before .before .lasts .given) in
     let r = s .pre .1 in
-    let n : c .before .before .before .before .before .before .number-at .result ≤ 16 = rw (c .before .before .before .before .before .before .number-at .ensures) (r .row .counted .upto) in
+    let n : c .before .before .before .before .before .before .number-at .result ≤ mostParts = rw (c .before .before .before .before .before .before .number-at .ensures) (r .row .counted .upto) in
     simp toZ-ofZ (n, few s, r .filled .sized, r .peaked .loads, record { signless = r .row .capacity .0; upto = r .row .capacity .1 }, try-small _ _ _ _ _ r _ (s .pre .0) _ (c .loop .inv))
 
 -- where the leap goes

@@ -11,14 +11,14 @@ use mir.Val.{SFits}
 use mir.Facts.{toZ-ofZ}
 use Rattle.words.specs.Int.{zz, fit}
 use Rattle.words.specs.Lists.{least, largest}
-use Rattle.cumulative.specs.Jumps.{ending}
+use Rattle.sure_parts.specs.Parts.{ending}
 use Rattle.reading.specs.At.{natAt}
 use Rattle.model.specs.Rows.{activityAt}
 use Rattle.domain.specs.Box.{values}
-use Rattle.cumulative.specs.Facts.{small-fits}
-use Rattle.cumulative.specs.Fill.{signless, ending-small}
-use Rattle.cumulative.proofs.fill_part.Statement.{statement}
-use Rattle.cumulative.proofs.fill_part.Tie as tie
+use Rattle.sure_parts.specs.Sizes.{small-fits}
+use Rattle.sure_parts.specs.Fill.{signless, ending-small}
+use Rattle.sure_parts.proofs.fill_part.Statement.{statement}
+use Rattle.sure_parts.proofs.fill_part.Tie as tie
 
 -- the end of the sure part is a word
 ended : (c : tie.After-least) → (c .least .result ≡ least (values (now (c .before .before .before .before .before .args .cells)) (natAt (now (c .before .before .before .before .before .args .model)) (c .before .before .before .before .before .args .at)))) × SFits w32 (c .least .result +ℤ getD (now (c .before .before .before .before .before .args .model)) (c .before .before .before .before .before .args .at + 1) (pos 0))

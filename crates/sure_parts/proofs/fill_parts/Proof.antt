@@ -5,10 +5,11 @@ use native.Mathlib.Omega.{arith}
 use borrow.Author.Needs.{needs}
 use lib.ListN.{length}
 use denote.Ref.{now}
+use Rattle.meaning.specs.Limits.{mostParts}
 use Rattle.domain.specs.Box.{values}
-use Rattle.cumulative.specs.Fill.{Filled, filled-none, filled-more, one-activity}
-use Rattle.cumulative.proofs.fill_parts.Statement.{statement}
-use Rattle.cumulative.proofs.fill_parts.Tie as tie
+use Rattle.sure_parts.specs.Fill.{Filled, filled-none, filled-more, one-activity}
+use Rattle.sure_parts.proofs.fill_parts.Statement.{statement}
+use Rattle.sure_parts.proofs.fill_parts.Tie as tie
 
 abbrev Inv-loop : tie.InvT-loop
 Inv-loop model q n cells parts₀ k₀ parts k = (k ≤ n) × (length parts ≡ length parts₀) × Filled (values cells) model q k parts
@@ -30,7 +31,7 @@ fill-part-requires c κs =
     let l = c .before .before in
     let s = l .before in
     let p = s .pre .0 in
-    let h : l .loop .k < 16 = omega arith in
+    let h : l .loop .k < mostParts = omega arith in
     (h, one-activity (s .pre .1) (l .loop .k) (c .before .loop-test .taken), s .pre .2, l .loop .inv .2 .sized .long)
 
 loop-again : tie.Need-loop-again Inv-loop μ-loop
@@ -39,7 +40,7 @@ loop-again c =
     let l = f .before .before .before in
     let s = l .before in
     let g = filled-more (values (now (s .args .cells))) (now (s .args .model)) (s .args .q) (l .loop .parts) (s .pre .2 .small) (s .pre .1) (s .pre .0) (l .loop .k) (f .before .before .loop-test .taken) (l .loop .inv .2) in
-    (omega arith, f .fill-part .kept .1 .1 .1 .0 ∙ l .loop .inv .1, rw (f .fill-part .ensures) g)
+    (omega arith, f .fill-part .kept .1 .1 .1 .1 .0 ∙ l .loop .inv .1, rw (f .fill-part .ensures) g)
 
 returns : tie.Need-returns Inv-loop μ-loop
 returns c =

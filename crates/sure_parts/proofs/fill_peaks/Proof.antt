@@ -10,11 +10,11 @@ use mir.Syntax.{w32}
 use mir.Val.{SFits}
 use mir.Facts.{toZ-ofZ}
 use Rattle.words.specs.Int.{zz, fit}
-use Rattle.cumulative.specs.Table.{untilOf, peak}
-use Rattle.cumulative.specs.Facts.{near-fits}
-use Rattle.cumulative.specs.Fill.{Peaked, peaked-none, peaked-more}
-use Rattle.cumulative.proofs.fill_peaks.Statement.{statement}
-use Rattle.cumulative.proofs.fill_peaks.Tie as tie
+use Rattle.sure_parts.specs.Table.{untilOf, peak}
+use Rattle.sure_parts.specs.Sizes.{near-fits}
+use Rattle.sure_parts.specs.Fill.{Peaked, peaked-none, peaked-more}
+use Rattle.sure_parts.proofs.fill_peaks.Statement.{statement}
+use Rattle.sure_parts.proofs.fill_peaks.Tie as tie
 
 abbrev Inv-loop : tie.InvT-loop
 Inv-loop parts n peaks₀ k₀ peaks k = (k ≤ n) × (length peaks ≡ length peaks₀) × Peaked parts n k peaks

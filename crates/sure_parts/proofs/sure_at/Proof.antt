@@ -9,10 +9,10 @@ use mir.Syntax.{w32}
 use mir.Val.{toZ, SFits}
 use mir.Facts.{toZ-ofZ}
 use Rattle.words.specs.Int.{zz, fit, sum}
-use Rattle.cumulative.specs.Table.{load}
-use Rattle.cumulative.specs.Facts.{load-none, load-more, load-small}
-use Rattle.cumulative.proofs.sure_at.Statement.{statement}
-use Rattle.cumulative.proofs.sure_at.Tie as tie
+use Rattle.sure_parts.specs.Table.{load}
+use Rattle.sure_parts.specs.Sizes.{load-none, load-more, load-small}
+use Rattle.sure_parts.proofs.sure_at.Statement.{statement}
+use Rattle.sure_parts.proofs.sure_at.Tie as tie
 
 abbrev Inv-loop : tie.InvT-loop
 Inv-loop parts n t sum₀ k₀ sum k = (k ≤ n) × (toZ w32 sum ≡ load parts (toZ w32 t) k)

@@ -4,9 +4,9 @@ use denote.Ref.{now}
 use mir.Syntax.{w32}
 use mir.Facts.{toZ-ofZ}
 use Rattle.words.specs.Int.{fit, le32-t, le32-f, lt32-t, lt32-f}
-use Rattle.cumulative.specs.Table.{fromOf, untilOf, usageOf}
-use Rattle.cumulative.proofs.used_at.Statement.{statement}
-use Rattle.cumulative.proofs.used_at.Tie as tie
+use Rattle.sure_parts.specs.Table.{fromOf, untilOf, usageOf}
+use Rattle.sure_parts.proofs.used_at.Statement.{statement}
+use Rattle.sure_parts.proofs.used_at.Tie as tie
 
 returns : tie.Need-returns
 returns c =

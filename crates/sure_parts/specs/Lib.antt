@@ -1,0 +1,4 @@
+pub mod Table
+pub mod Sizes
+pub mod Parts
+pub mod Fill
