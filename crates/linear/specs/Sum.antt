@@ -1,4 +1,4 @@
--- The sum of a linear row's least terms, term by term, and its size: 16 terms of at most 1,000,000 times 100,000.
+-- The sum of a linear row's least terms, term by term, and its size.
 use Prim.Native.Nat.{ℕ, _+_, _*_, _≤_, _<_}
 use mathlib.Core.Path.{_≡_, refl, ap}
 use mathlib.Core.Bool.{true, false}
@@ -8,7 +8,7 @@ use lib.IntN.{ℤ, pos, negsuc, natAbs, _+ℤ_, _*ℤ_}
 use lib.Signed.{ltZ}
 use mir.Syntax.{w64}
 use mir.Val.{SFits}
-use Rattle.meaning.specs.Limits.{mostParts}
+use Rattle.meaning.specs.Limits.{mostParts, mostValue, mostCoefficient}
 use Rattle.words.specs.Int.{zz, sum, abs-sum, abs-fits, abs-mul-le}
 use Rattle.words.specs.Lists.{least, largest}
 use Rattle.meaning.specs.Rule.{leastTerm, leastSum}
@@ -26,15 +26,18 @@ pub term-above : (c : ℤ) (vs : List ℤ) → ltZ c (pos 0) ≡ false → least
 term-above (pos n) vs e = refl
 term-above (negsuc n) vs e = absurd (omega (arith, zz))
 
--- the most that a term can be: one more than document 01 lets a value be, so that an end moved past it is covered too
-pub term-small : (c : ℤ) (vs : List ℤ) → natAbs c ≤ 1000000 → ((v : ℤ) → In v vs → natAbs v ≤ 100001) → natAbs (leastTerm c vs) ≤ 100001000000
-term-small (pos n) vs h k = abs-mul-le (pos n) (least vs) h (least-small 100001 vs k)
-term-small (negsuc n) vs h k = abs-mul-le (negsuc n) (largest vs) h (largest-small 100001 vs k)
+-- the most that a term can be
+abbrev pub mostTerm : ℕ
+mostTerm = mostCoefficient * mostValue
 
--- one term more on a sum of at most 15
-pub more-small : (s t : ℤ) (i : ℕ) → i < mostParts → natAbs s ≤ i * 100001000000 → natAbs t ≤ 100001000000 → (natAbs (s +ℤ t) ≤ (i + 1) * 100001000000) × SFits w64 (s +ℤ t)
+pub term-small : (c : ℤ) (vs : List ℤ) → natAbs c ≤ mostCoefficient → ((v : ℤ) → In v vs → natAbs v ≤ mostValue) → natAbs (leastTerm c vs) ≤ mostTerm
+term-small (pos n) vs h k = abs-mul-le (pos n) (least vs) h (least-small mostValue vs k)
+term-small (negsuc n) vs h k = abs-mul-le (negsuc n) (largest vs) h (largest-small mostValue vs k)
+
+-- one term more than i: as many as a row can have fit a word
+pub more-small : (s t : ℤ) (i : ℕ) → i < mostParts → natAbs s ≤ i * mostTerm → natAbs t ≤ mostTerm → (natAbs (s +ℤ t) ≤ (i + 1) * mostTerm) × SFits w64 (s +ℤ t)
 more-small s t i h hs ht =
-    let n : natAbs (s +ℤ t) ≤ (i + 1) * 100001000000 = omega (arith, abs-sum s t) in
+    let n : natAbs (s +ℤ t) ≤ (i + 1) * mostTerm = omega (arith, abs-sum s t) in
     (n, abs-fits (s +ℤ t) (omega arith))
 
 -- ---- the sum: what was added up and what is still to come make the whole

@@ -1,4 +1,4 @@
--- `conflicts` meets its contract: what was added up and what is still to come make the whole sum, and the sum so far is at most 100,000,000,000 for each term.
+-- `conflicts` meets its contract: what was added up and what is still to come make the whole sum, and the sum so far is at most the largest term for each.
 -- Assumes nothing.
 use mathlib.Core.Path.{_≡_, sym}
 use Prim.Native.Nat.{_+_, _*_, _-_, _≤_}
@@ -13,13 +13,13 @@ use borrow.Author.Needs.{needs}
 use Rattle.words.specs.Int.{fit, wide}
 use Rattle.reading.specs.At.{natAt}
 use Rattle.domain.specs.Box.{values}
-use Rattle.linear.specs.Sum.{whole, rest, term-small, more-small, sum-start, sum-next, sum-end}
+use Rattle.linear.specs.Sum.{mostTerm, whole, rest, term-small, more-small, sum-start, sum-next, sum-end}
 use Rattle.linear.proofs.conflicts.Statement.{statement}
 use Rattle.linear.proofs.conflicts.Tie as tie
 
 abbrev Inv-loop : tie.InvT-loop
 Inv-loop model p cells terms bound sum₀ i₀ sum i =
-    (i ≤ natAt model p) × (natAbs (toZ w64 sum) ≤ i * 100001000000) × (whole (values cells) (natAt model p) model (p + 2) ≡ toZ w64 sum +ℤ rest (values cells) (natAt model p) model (p + 2) i)
+    (i ≤ natAt model p) × (natAbs (toZ w64 sum) ≤ i * mostTerm) × (whole (values cells) (natAt model p) model (p + 2) ≡ toZ w64 sum +ℤ rest (values cells) (natAt model p) model (p + 2) i)
 
 abbrev μ-loop : tie.MeasureT-loop
 μ-loop model p cells terms bound sum₀ i₀ sum i = natAt model p - i
@@ -38,13 +38,13 @@ least-term-requires c κs =
     (s .pre .2 .named (c .before .loop .i) (omega arith), s .pre .3 .formed)
 
 -- the term is small, so that the sum fits
-more : (c : tie.After-least-term Inv-loop μ-loop) → (natAbs (toZ w64 (c .before .before .loop .sum) +ℤ c .least-term .result) ≤ (c .before .before .loop .i + 1) * 100001000000) × SFits w64 (toZ w64 (c .before .before .loop .sum) +ℤ c .least-term .result)
+more : (c : tie.After-least-term Inv-loop μ-loop) → (natAbs (toZ w64 (c .before .before .loop .sum) +ℤ c .least-term .result) ≤ (c .before .before .loop .i + 1) * mostTerm) × SFits w64 (toZ w64 (c .before .before .loop .sum) +ℤ c .least-term .result)
 more c =
     let l = c .before .before .loop in
     let s = c .before .before .before .before .before in
     let x = natAt (now (s .args .model)) (s .args .p + 2 + l .i * 2 + 1) in
     let k = getD (now (s .args .model)) (s .args .p + 2 + l .i * 2) (pos 0) in
-    let t = term-small k (values (now (s .args .cells)) x) (s .pre .2 .small (l .i) (omega arith)) (λ v m. let b = s .pre .3 .small x v m in omega arith) in
+    let t = term-small k (values (now (s .args .cells)) x) (s .pre .2 .small (l .i) (omega arith)) (s .pre .3 .small x) in
     let u = rw (sym (c .least-term .ensures)) at t in
     more-small (toZ w64 (l .sum)) (c .least-term .result) (l .i) (omega arith) (l .inv .1) u
 
