@@ -1,6 +1,7 @@
 // The circuit row: a set of positions, neither empty nor all, that no value left of its members leaves.
 // Position i leads to position j where a value left to the i-th variable is j. There is such a set exactly where position 0 does not reach all positions, or some position does not reach position 0.
 // A set of positions is a mask with a bit for each.
+use reading::limits::MOST_PARTS;
 use reading::number_at;
 use reading::variable_at;
 use words::VarNo;
@@ -45,11 +46,11 @@ fn targets(cells: &[i32], x: VarNo, n: usize) -> u32
 }
 
 // Where each of the n positions leads, whose variables stand from p on.
-fn links_of(model: &[i32], p: usize, n: usize, cells: &[i32]) -> [u32; 16]
+fn links_of(model: &[i32], p: usize, n: usize, cells: &[i32]) -> [u32; MOST_PARTS]
     requires { ⌜ Formed (now cells) × VariablesIn (variables (now cells)) (now model) p n × (n ≤ mostParts) ⌝ }
     ensures { λ r. ⌜ Links (names (values (now (cells .entry))) (eachAt natAt 1 n (now (model .entry)) p)) n r ⌝ }
 {
-    let mut table = [0u32; 16];
+    let mut table = [0u32; MOST_PARTS];
     let mut i: usize = 0;
     while i < n {
         let x = variable_at(model, p + i);
@@ -67,7 +68,7 @@ fn first_apart(a: u32, b: u32) -> usize
 }
 
 // The positions that position 0 reaches. What was looked at is done; what that leads to is seen.
-fn reach(links: &[u32; 16], n: usize) -> u32
+fn reach(links: &[u32; MOST_PARTS], n: usize) -> u32
     requires { ⌜ (0 < n) × (n ≤ mostParts) × Links (leads (now links)) n (now links) ⌝ }
     ensures { λ r. ⌜ Reached (leads (now (links .entry))) n r ⌝ }
 {
@@ -82,7 +83,7 @@ fn reach(links: &[u32; 16], n: usize) -> u32
 }
 
 // The set with the positions that lead into it.
-fn sweep_back(links: &[u32; 16], n: usize, set: u32) -> u32
+fn sweep_back(links: &[u32; MOST_PARTS], n: usize, set: u32) -> u32
     requires { ⌜ (n ≤ mostParts) × (set < 2 ^ n) × Links (leads (now links)) n (now links) ⌝ }
     ensures { λ r. ⌜ Swept (flip (leads (now (links .entry)))) n set n r ⌝ }
 {
@@ -99,7 +100,7 @@ fn sweep_back(links: &[u32; 16], n: usize, set: u32) -> u32
 }
 
 // The positions that reach position 0: what position 0 reaches by the links the other way round.
-fn reach_back(links: &[u32; 16], n: usize) -> u32
+fn reach_back(links: &[u32; MOST_PARTS], n: usize) -> u32
     requires { ⌜ (0 < n) × (n ≤ mostParts) × Links (leads (now links)) n (now links) ⌝ }
     ensures { λ r. ⌜ Reached (flip (leads (now (links .entry)))) n r ⌝ }
 {
@@ -113,7 +114,7 @@ fn reach_back(links: &[u32; 16], n: usize) -> u32
 }
 
 // Whether some set of positions, neither empty nor all, has no link that leaves it.
-fn splits(links: &[u32; 16], n: usize) -> bool
+fn splits(links: &[u32; MOST_PARTS], n: usize) -> bool
     requires { ⌜ (0 < n) × (n ≤ mostParts) × Links (leads (now links)) n (now links) ⌝ }
     ensures { λ r. ⌜ TellsSplit (leads (now (links .entry))) n r ⌝ }
 {

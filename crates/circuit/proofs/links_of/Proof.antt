@@ -5,6 +5,7 @@ use native.Mathlib.Omega.{arith}
 use borrow.Author.Needs.{needs}
 use lib.IntN.{pos}
 use lib.ListN.{length, length-set}
+use Rattle.meaning.specs.Limits.{mostParts}
 use Rattle.words.specs.Int.{eqZ}
 use Rattle.words.specs.Lists.{member}
 use Rattle.domain.specs.Box.{values}
@@ -15,7 +16,7 @@ use Rattle.circuit.proofs.links_of.Statement.{statement}
 use Rattle.circuit.proofs.links_of.Tie as tie
 
 abbrev Inv-loop : tie.InvT-loop
-Inv-loop model p n cells table₀ i₀ table i = (i ≤ n) × (length table ≡ 16) × Rows (names (values cells) (eachAt natAt 1 n model p)) n i table
+Inv-loop model p n cells table₀ i₀ table i = (i ≤ n) × (length table ≡ mostParts) × Rows (names (values cells) (eachAt natAt 1 n model p)) n i table
 
 abbrev μ-loop : tie.MeasureT-loop
 μ-loop model p n cells table₀ i₀ table i = n - i

@@ -6,6 +6,7 @@ use denote.Ref.{now}
 use lib.IntN.{pos}
 use lib.Bits.{bitAnd, mask-lt}
 use lib.Pow.{pow-mono}
+use Rattle.meaning.specs.Limits.{mostParts}
 use Rattle.words.specs.Int.{eqZ}
 use Rattle.words.specs.Lists.{member}
 use Rattle.domain.specs.Box.{values}
@@ -18,7 +19,7 @@ cast-result-2 : tie.Need-cast-result-2
 cast-result-2 c =
     let a = c .before .before .args in
     let m = mask-lt (c .before .mask .result) (a .n) in
-    let p = pow-mono {i = a .n} {j = 16} (omega arith) in
+    let p = pow-mono {i = a .n} {j = mostParts} (omega arith) in
     rw (c .all-below .ensures) (omega (arith, m, p))
 
 returns : tie.Need-returns
