@@ -7,11 +7,12 @@ use mathlib.Core.Option.{none, some}
 use mathlib.Core.Logic.{⊎-elim}
 use mathlib.Core.List.{List, [], _∷_, List·Memᴰ as In, List·Memᴰ·not-nil as not-in-nil, List·Memᴰ·append-cases as in-either}
 use lib.ListN.{length}
-use lib.IntN.{ℤ, pos, negsuc, natAbs, _+ℤ_}
+use lib.IntN.{ℤ, pos, natAbs, _+ℤ_}
 use mir.Syntax.{w32}
 use mir.Val.{SFits}
 use borrow.Author.Tests.{lt-ltb, le-ltb}
 use Rattle.meaning.specs.Limits.{mostValue}
+use Rattle.meaning.specs.Read.{neg}
 use Rattle.words.specs.Int.{zz, abs-is, abs-sum, abs-fits}
 use Rattle.meaning.specs.Rule.{once, union, crowded}
 use Rattle.all_different.specs.Distinct.{many, many-all, many-none, many-one-more}
@@ -35,8 +36,8 @@ module _ (d : ℕ → List ℤ) (xs : List ℕ) where
   abbrev pub SoFar : ℤ → ℕ → Type 0
   SoFar from found = length (once (union d xs)) ≡ found + many from (union d xs)
 
-  pub count-start : ((x : ℕ) (v : ℤ) → In v (d x) → natAbs v ≤ mostValue) → SoFar (negsuc 99999) 0
-  count-start small = let e = many-all (negsuc 99999) (union d xs) (λ v i. let h = union-small d small xs v i in omega (arith, zz, abs-is v)) in omega arith
+  pub count-start : ((x : ℕ) (v : ℤ) → In v (d x) → natAbs v ≤ mostValue) → SoFar (neg mostValue) 0
+  count-start small = let e = many-all (neg mostValue) (union d xs) (λ v i. let h = union-small d small xs v i in omega (arith, zz, abs-is v)) in omega arith
 
   pub count-next : {from v : ℤ} (found : ℕ) → Soonest from (union d xs) (some v) → SoFar from found → SoFar (v +ℤ pos 1) (found + 1)
   count-next {from} {v} found (this i l h) e = let m = many-one-more from v (union d xs) i l h in omega arith

@@ -1,5 +1,7 @@
 // All-different rows: the row's variables that occur in the fact have fewer values left than they are. Which occur, a set of marks says.
 use domain::Next;
+use reading::limits::MOST_PARTS;
+use reading::limits::MOST_VALUE;
 use reading::number_at;
 use words::VarNo;
 ghost use mathlib.Core.Path.{_≡_};
@@ -7,6 +9,7 @@ ghost use mathlib.Core.Option.{none};
 ghost use Prim.Native.Nat.{_+_, _*_, _≤_, _<_};
 ghost use lib.ListN.{length, take};
 ghost use Rattle.words.specs.Lists.{keep, All};
+ghost use Rattle.meaning.specs.Limits.{mostParts};
 ghost use Rattle.meaning.specs.Rule.{crowded};
 ghost use Rattle.marks.specs.Marks.{marked};
 ghost use Rattle.reading.specs.At.{natAt, eachAt};
@@ -15,6 +18,9 @@ ghost use Rattle.domain.specs.Box.{Formed, variables, values};
 ghost use Rattle.domain.specs.Told.{toldNext};
 ghost use Rattle.rule_facts.specs.Ready.{Ready};
 ghost use Rattle.all_different.specs.Soonest.{sooner, soonestOf};
+
+// No value of a box that is judged is smaller.
+const LEAST_VALUE: i32 = 0 - (MOST_VALUE as i32);
 
 // The smaller of two values, where there are two.
 fn sooner(a: Next, b: Next) -> Next
@@ -49,7 +55,7 @@ fn crowded(cells: &[i32], xs: &[usize]) -> bool
     requires { ⌜ Ready (now cells) × All (λ x. x < variables (now cells)) (now xs) ⌝ }
     ensures { λ r. ⌜ r ≡ crowded (values (now (cells .entry))) (now (xs .entry)) ⌝ }
 {
-    let mut from: i32 = -100000;
+    let mut from: i32 = LEAST_VALUE;
     let mut found: usize = 0;
     while found < xs.len() {
         let Next::At(v) = next_value(cells, xs, from) else {
@@ -63,8 +69,8 @@ fn crowded(cells: &[i32], xs: &[usize]) -> bool
 
 // The row's variables that occur, in the row's order: how many they are, and each in a place of `chosen`.
 fn choose(model: &[i32], p: usize, occurring: &[u64], chosen: &mut [usize]) -> usize
-    requires { ⌜ Counted 2 (now model) p × VariablesIn (64 * length (now occurring)) (now model) (p + 1) (natAt (now model) p) × (length (now chosen) ≡ 16) ⌝ }
-    ensures { λ r. ⌜ (r ≤ 16) × (take r (now (chosen .exit)) ≡ keep (marked (now (occurring .entry))) (eachAt natAt 1 (natAt (now (model .entry)) p) (now (model .entry)) (p + 1))) ⌝ }
+    requires { ⌜ Counted 2 (now model) p × VariablesIn (64 * length (now occurring)) (now model) (p + 1) (natAt (now model) p) × (length (now chosen) ≡ mostParts) ⌝ }
+    ensures { λ r. ⌜ (r ≤ mostParts) × (take r (now (chosen .exit)) ≡ keep (marked (now (occurring .entry))) (eachAt natAt 1 (natAt (now (model .entry)) p) (now (model .entry)) (p + 1))) ⌝ }
 {
     let n = number_at(model, p);
     let mut count: usize = 0;
@@ -86,7 +92,7 @@ pub fn conflicts(model: &[i32], p: usize, occurring: &[u64], cells: &[i32]) -> b
     requires { ⌜ Counted 2 (now model) p × VariablesIn (variables (now cells)) (now model) (p + 1) (natAt (now model) p) × (variables (now cells) ≤ 64 * length (now occurring)) × Ready (now cells) ⌝ }
     ensures { λ r. ⌜ r ≡ crowded (values (now (cells .entry))) (keep (marked (now (occurring .entry))) (eachAt natAt 1 (natAt (now (model .entry)) p) (now (model .entry)) (p + 1))) ⌝ }
 {
-    let mut chosen = [0usize; 16];
+    let mut chosen = [0usize; MOST_PARTS];
     let count = choose(model, p, occurring, &mut chosen);
     crowded(cells, &chosen[..count])
 }
