@@ -8,7 +8,7 @@ use lib.Dec.{eqb}
 use lib.IntN.{ℤ}
 use lib.ListN.{length}
 use Rattle.words.specs.Lists.{any}
-use Rattle.marks.specs.Marks.{marked, added, added-is, added-length, cleared, cleared-none, cleared-length}
+use Rattle.marks.specs.Marks.{marked, added, added-is, added-length, blank, blank-none, blank-length}
 use Rattle.meaning.specs.Log.{Atom}
 use Rattle.meaning.specs.Rule.{optional}
 use Rattle.reading.specs.At.{natAt, eachAt}
@@ -27,7 +27,15 @@ abbrev pub markedEach : List ℤ → ℕ → ℕ → List ℕ → List ℕ
 markedEach log = inTurn (markedAt log)
 
 abbrev pub markedFact : List ℤ → FactPlace → List ℕ → List ℕ
-markedFact log f ws = markedEach log (f .then) (f .consequent) (markedEach log (f .count) (f .premises) (cleared ws))
+markedFact log f ws = markedEach log (f .then) (f .consequent) (markedEach log (f .count) (f .premises) ws)
+
+-- only an all-different row, kind 2, asks for them
+abbrev pub asksFor : ℕ → Bool
+asksFor kind = eqb kind 2
+
+abbrev pub markedWhere : Bool → List ℤ → FactPlace → List ℕ → List ℕ
+markedWhere true log f ws = markedFact log f ws
+markedWhere false log f ws = ws
 
 -- ---- so many marks fit
 atom-of-more : {v w : ℕ} {log : List ℤ} {p : ℕ} → v ≤ w → AtomIn v log p → AtomIn w log p
@@ -82,16 +90,23 @@ any-append t (x ∷ xs) ys = ap (λ b. t x || b) (any-append t xs ys) ∙ move (
     move true false c = refl
     move false b c = refl
 
--- just the variables that occur in the fact
-pub marked-occurs : (log : List ℤ) (f : FactPlace) (ws : List ℕ) → FactIn (64 * length ws) log f → Occurring (factOf log f) (markedFact log f ws)
-marked-occurs log f ws i x =
-    let c = cleared-length ws in
-    let l = marked-length log (f .count) (f .premises) (cleared ws) in
-    marked-each log x (f .then) (f .consequent) (markedEach log (f .count) (f .premises) (cleared ws)) (rw (l, c) (consequents-in f i))
+-- just the variables that occur in the fact, in a set that had none
+pub marked-occurs : (log : List ℤ) (f : FactPlace) (ws : List ℕ) → ((x : ℕ) → marked ws x ≡ false) → FactIn (64 * length ws) log f → Occurring (factOf log f) (markedFact log f ws)
+marked-occurs log f ws none i x =
+    let l = marked-length log (f .count) (f .premises) ws in
+    marked-each log x (f .then) (f .consequent) (markedEach log (f .count) (f .premises) ws) (rw l (consequents-in f i))
     ∙ ap₂ _||_ (ap (any (about x)) (sym (consequents (f .then) log (f .consequent) (i .one))))
-    (marked-each log x (f .count) (f .premises) (cleared ws) (rw c (i .premise)) ∙ ap (λ b. any (about x) (eachAt atomAt 3 (f .count) log (f .premises)) || b) (cleared-none ws x) ∙ last (any (about x) (eachAt atomAt 3 (f .count) log (f .premises))))
+    (marked-each log x (f .count) (f .premises) ws (i .premise) ∙ ap (λ b. any (about x) (eachAt atomAt 3 (f .count) log (f .premises)) || b) (none x) ∙ last (any (about x) (eachAt atomAt 3 (f .count) log (f .premises))))
     ∙ sym (any-append (about x) (eachAt atomAt 3 (f .count) log (f .premises)) (optional (thenAt (f .then) log (f .consequent))))
   where
     last : (b : Bool) → (b || false) ≡ b
     last true = refl
     last false = refl
+
+-- blank words have room for v variables, and are just the marks that the row asks for once those of the fact are added
+module _ (log : List ℤ) (f : FactPlace) (v words kind : ℕ) (room : v ≤ 64 * words) (i : FactIn v log f) where
+  pub blank-room : FactIn (64 * length (blank words)) log f
+  blank-room = let e = blank-length words in fact-of-more (omega arith) i
+
+  pub asked-occurs : kind ≡ 2 → Occurring (factOf log f) (markedWhere (asksFor kind) log f (blank words))
+  asked-occurs e = rw e (marked-occurs log f (blank words) (blank-none words) blank-room)

@@ -2,6 +2,7 @@
 use crate::Verdict;
 use crate::boxes;
 use crate::occurrences;
+use reading::limits::MOST_VARIABLES;
 use reading::refusals::BOX_EMPTY;
 use reading::refusals::ROW_DOES_NOT_CONFLICT;
 use rules;
@@ -10,6 +11,7 @@ use words::RowNo;
 ghost use mathlib.Core.Path.{_≡_};
 ghost use Prim.Native.Nat.{_+_, _*_, _≤_, _<_};
 ghost use lib.ListN.{length};
+ghost use Rattle.meaning.specs.Limits.{mostVariables};
 ghost use Rattle.meaning.specs.Judge as judge;
 ghost use Rattle.meaning.specs.Judge.{judgeInference};
 ghost use Rattle.meaning.specs.Rule.{conflicts};
@@ -22,13 +24,16 @@ ghost use Rattle.judging.specs.Boxes.{boxRoom};
 ghost use Rattle.judging.specs.Judged.{rowsOf};
 ghost use Rattle.judging.specs.Told.{toldVerdict};
 
-// Does the row whose kind stands at a position conflict with the box of the fact? The marks have a bit for each of 256 variables.
+// A word of marks for every 64 variables.
+const MARK_WORDS: usize = (MOST_VARIABLES + 63) / 64;
+
+// Does the row whose kind stands at a position conflict with the box of the fact?
 fn row_conflicts(model: &[i32], at: usize, log: &[i32], fact: FactPlace, cells: &[i32]) -> bool
-    requires { ⌜ RowIn (variables (now cells)) (now model) at × FactIn (variables (now cells)) (now log) fact × (variables (now cells) ≤ 256) × Ready (now cells) ⌝ }
+    requires { ⌜ RowIn (variables (now cells)) (now model) at × FactIn (variables (now cells)) (now log) fact × (variables (now cells) ≤ mostVariables) × Ready (now cells) ⌝ }
     ensures { λ r. ⌜ r ≡ conflicts (factOf (now (log .entry)) fact) (values (now (cells .entry))) (rowAt (now (model .entry)) at) ⌝ }
 {
-    let mut occurring = [0u64; 4];
-    occurrences::mark(log, fact, &mut occurring);
+    let mut occurring = [0u64; MARK_WORDS];
+    occurrences::mark_where_asked(model, at, log, fact, &mut occurring);
     rules::conflicts(model, at, &occurring, cells)
 }
 

@@ -6,13 +6,12 @@ use mathlib.Core.List.{List}
 use mathlib.Core.Logic.{⊎-elim}
 use native.Mathlib.Omega.{arith}
 use native.Mathlib.Nat.{one-mul}
-use native.Mathlib.Numerals.{add-one}
 use lib.Bits.{bitOr}
-use lib.Dec.{eqb, ltb}
-use lib.ListN.{length, getD, set, length-set, List·getD-eq-default}
+use lib.Dec.{eqb}
+use lib.ListN.{length, getD, set, replicate, length-replicate, length-set}
 use lib.Pow.{shl-exact}
 use lib.Seq.{getD-set-same, getD-set-other}
-use borrow.Author.Tests.{eqb-true, eqb-false, eq-eqb, ne-eqb, ltb-true, ltb-false}
+use borrow.Author.Tests.{eqb-true, eqb-false, eq-eqb, ne-eqb}
 use Rattle.words.specs.ListFacts.{tested}
 use Rattle.words.specs.Bits.{bit, bit-or, bit-zero, bit-power}
 
@@ -22,52 +21,30 @@ marked ws n = bit (getD ws (n / 64) 0) (n % 64)
 unfoldable pub added : List ℕ → ℕ → List ℕ
 added ws n = set ws (n / 64) (bitOr (getD ws (n / 64) 0) (2 ^ (n % 64)))
 
--- the first k words are 0
-pub zeroed : ℕ → List ℕ → List ℕ
-zeroed zero ws = ws
-zeroed (suc k) ws = set (zeroed k ws) k 0
-
-abbrev pub cleared : List ℕ → List ℕ
-cleared ws = zeroed (length ws) ws
-
-pub zeroed-length : (k : ℕ) (ws : List ℕ) → length (zeroed k ws) ≡ length ws
-unfolding zeroed
-zeroed-length zero ws = refl
-zeroed-length (suc k) ws = length-set (zeroed k ws) k 0 ∙ zeroed-length k ws
-
-pub zeroed-none : (ws : List ℕ) → zeroed 0 ws ≡ ws
-unfolding zeroed
-zeroed-none ws = refl
-
-pub zeroed-more : (k : ℕ) (ws : List ℕ) → zeroed (k + 1) ws ≡ set (zeroed k ws) k 0
-unfolding zeroed
-zeroed-more k ws = rw (add-one k)
+-- n words of 0
+abbrev pub blank : ℕ → List ℕ
+blank n = replicate n 0
 
 -- the bit of a number, as the code makes it
 pub one-shifted : (k : ℕ) → k < 64 → (1 * 2 ^ k) % 2 ^ 64 ≡ 2 ^ k
 one-shifted k h = shl-exact {a = 1} 1 k 64 (omega arith) (omega arith) ∙ one-mul (2 ^ k)
 
+pub blank-length : (n : ℕ) → length (blank n) ≡ n
+blank-length n = length-replicate n 0
+
 pub added-length : (ws : List ℕ) (n : ℕ) → length (added ws n) ≡ length ws
 unfolding added
 added-length ws n = length-set ws (n / 64) (bitOr (getD ws (n / 64) 0) (2 ^ (n % 64)))
 
-pub cleared-length : (ws : List ℕ) → length (cleared ws) ≡ length ws
-cleared-length ws = zeroed-length (length ws) ws
-
--- ---- the law: a cleared set has none, and adding n changes nothing but whether n is in it
-zero-at : (ws : List ℕ) (k j : ℕ) → j < k → k ≤ length ws → getD (zeroed k ws) j 0 ≡ 0
-unfolding zeroed
-zero-at ws zero j h l = absurd (omega arith)
-zero-at ws (suc k) j h l =
-    ⊎-elim (λ e. rw (eqb-true j k e) (getD-set-same (zeroed k ws) k 0 0 (omega (arith, zeroed-length k ws))))
-    (λ e. let q = eqb-false j k e in getD-set-other (zeroed k ws) k j 0 0 q ∙ zero-at ws k j (omega arith) (omega arith)) (tested (eqb j k))
-
-pub cleared-none : (ws : List ℕ) (m : ℕ) → marked (cleared ws) m ≡ false
+-- ---- the law: blank words are the set that has none, and adding n changes nothing but whether n is in it
+pub blank-none : (n m : ℕ) → marked (blank n) m ≡ false
 unfolding marked
-cleared-none ws m = ap (λ w. bit w (m % 64)) (⊎-elim (λ e. zero-at ws (length ws) (m / 64) (ltb-true (m / 64) (length ws) e) (omega arith)) (λ e. beyond (m / 64) (ltb-false (m / 64) (length ws) e)) (tested (ltb (m / 64) (length ws)))) ∙ bit-zero (m % 64)
+blank-none n m = ap (λ w. bit w (m % 64)) (word n (m / 64)) ∙ bit-zero (m % 64)
   where
-    beyond : (j : ℕ) → length ws ≤ j → getD (cleared ws) j 0 ≡ 0
-    beyond j h = List·getD-eq-default (cleared ws) 0 (omega (arith, zeroed-length (length ws) ws))
+    word : (n j : ℕ) → getD (blank n) j 0 ≡ 0
+    word zero j = refl
+    word (suc n) zero = refl
+    word (suc n) (suc j) = word n j
 
 pub added-is : (ws : List ℕ) (n m : ℕ) → n < 64 * length ws → marked (added ws n) m ≡ (eqb m n || marked ws m)
 unfolding marked added

@@ -2,7 +2,7 @@
 ghost use mathlib.Core.Path.{_≡_};
 ghost use Prim.Native.Nat.{_*_, _<_};
 ghost use lib.ListN.{length};
-ghost use Rattle.marks.specs.Marks.{marked, added, cleared};
+ghost use Rattle.marks.specs.Marks.{marked, added};
 
 // Whether the set has n.
 pub fn holds(set: &[u64], n: usize) -> bool
@@ -21,15 +21,4 @@ pub fn add(n: usize, set: &mut [u64])
     let k = n / 64;
     let w = set[k];
     set[k] = w | (1 << (n % 64));
-}
-
-// The set has no number from now on.
-pub fn clear(set: &mut [u64])
-    ensures { λ r. ⌜ now (set .exit) ≡ cleared (now (set .entry)) ⌝ }
-{
-    let mut k: usize = 0;
-    while k < set.len() {
-        set[k] = 0;
-        k += 1;
-    }
 }

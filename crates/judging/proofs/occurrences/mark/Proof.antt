@@ -1,35 +1,27 @@
--- The premises' variables, then the consequent's, in a set that had none.
+-- The premises' variables, then the consequent's.
 use mathlib.Core.Path.{_∙_}
 use Rattle.judging.specs.Occurrences.{consequents-in}
 use borrow.Author.Needs.{needs}
 use Rattle.judging.proofs.occurrences.mark.Statement.{statement}
 use Rattle.judging.proofs.occurrences.mark.Tie as tie
 
-mark-each-requires : tie.Need-mark-each-requires
-mark-each-requires c κs =
-    let k = c .before .before .before in
-    rw (k .clear .kept .0) (k .before .before .before .pre .premise)
-
 mark-each-requires-2 : tie.Need-mark-each-requires-2
 mark-each-requires-2 c κs =
     let m = c .before .before .before in
-    let k = m .before .before .before .before in
-    let s = k .before .before .before in
-    rw (m .mark-each .kept .1 .1 .1 .0 ∙ k .clear .kept .0) (consequents-in (s .args .fact) (s .pre))
+    let s = m .before .before .before in
+    rw (m .mark-each .kept .1 .1 .1 .0) (consequents-in (s .args .fact) (s .pre))
 
 returns : tie.Need-returns
 returns c =
     let n = c .before .before in
     let m = n .before .before .before .before in
-    let k = m .before .before .before .before in
-    n .mark-each2 .ensures ∙ rw (m .mark-each .ensures, k .clear .ensures)
+    n .mark-each2 .ensures ∙ rw (m .mark-each .ensures)
 
 pub mark-spec : {M : Type 1} → statement M
 mark-spec =
     tie.close
     (tie.spec
     (λ c κs. search needs)
-    mark-each-requires
     mark-each-requires-2
     (λ c. search needs)
     returns)
