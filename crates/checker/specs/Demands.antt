@@ -8,6 +8,7 @@ use mathlib.Core.List.{List, [], _∷_, _++_}
 use native.Mathlib.Omega.{arith}
 use lib.IntN.{ℤ}
 use lib.ListN.{length, drop, getD}
+use Rattle.meaning.specs.Limits.{mostModelWords}
 use Rattle.meaning.specs.Model.{Model}
 use Rattle.meaning.specs.Log.{Step}
 use Rattle.meaning.specs.Judge.{rowAt}
@@ -133,7 +134,7 @@ module _ (old new log : List ℤ) (lent left : List ℕ) (a : Answer) (promise :
 
 -- ---- rows that no step cites do not matter: two good models with the same bounds and number of rows, which agree on the rows that are cited, get the same answer and leave the same places
 abbrev pub GoodTable : List ℤ → Model → Type 0
-GoodTable model m = (length model ≤ 4096) × (model ≡ modelTable m) × InRange m
+GoodTable model m = (length model ≤ mostModelWords) × (model ≡ modelTable m) × InRange m
 
 pub framed : (model₁ model₂ log : List ℤ) (m₁ m₂ : Model) → GoodTable model₁ m₁ → GoodTable model₂ m₂ → m₁ .bounds ≡ m₂ .bounds → length (m₁ .rows) ≡ length (m₂ .rows)
     → ((r : ℕ) → Cited m₁ r 0 0 [] log → rowAt m₁ r ≡ rowAt m₂ r)

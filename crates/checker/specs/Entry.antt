@@ -9,6 +9,7 @@ use lib.Dec.{ltb}
 use lib.IntN.{ℤ}
 use lib.ListN.{length}
 use Rattle.meaning.specs.Limits.{mostModelWords, mostLogWords, fewestPlaces, mostRows}
+use Rattle.meaning.specs.Refusals.{modelTooLong, logTooLong, placesTooFew, wordsAfterModel}
 use Rattle.meaning.specs.Model.{Model, readModel}
 use Rattle.meaning.specs.Check.{Outcome, shutEarly, admitted, guarded, good, goodOf, readGood}
 use lib.Seq.{sets}
@@ -21,14 +22,20 @@ use Rattle.checker.specs.declared.Answer.{Answer}
 use Rattle.checker.specs.declared.Answer.the-variants as answer
 
 -- a refusal before the walk carries step 0
-abbrev pub refusalOf : ℕ → ℕ → Answer
-refusalOf num p = answer.Refused num 0 p
+abbrev pub ToldEarly : Past → Answer → Type 0
+ToldEarly (past.Refused num p) r = r ≡ answer.Refused num 0 p
+ToldEarly (past.Next n) r = ⊥
+
+-- a refusal at a position that is n at most
+abbrev pub RefusedBelow : ℕ → Past → Type 0
+RefusedBelow n (past.Refused num p) = p ≤ n
+RefusedBelow n (past.Next m) = ⊥
 
 -- the first size that is wrong
 abbrev pub sizesBy : Bool → Bool → Bool → Past
-sizesBy true longLog fewPlaces = past.Refused 1 0
-sizesBy false true fewPlaces = past.Refused 2 0
-sizesBy false false true = past.Refused 3 0
+sizesBy true longLog fewPlaces = past.Refused modelTooLong 0
+sizesBy false true fewPlaces = past.Refused logTooLong 0
+sizesBy false false true = past.Refused placesTooFew 0
 sizesBy false false false = past.Next 0
 
 abbrev pub sizesOf : ℕ → ℕ → ℕ → Past
@@ -37,7 +44,7 @@ sizesOf model log places = sizesBy (ltb mostModelWords model) (ltb mostLogWords 
 module _ (model log : List ℤ) (places : ℕ) where
   -- whatever is to be done with a good model, the check is shut
   abbrev pub RefusedAt : ℕ → ℕ → Type 0
-  RefusedAt num p = (num ≤ 7) × ((next : Model → Outcome) → guarded model log places next ≡ shutEarly num p)
+  RefusedAt num p = (num ≤ wordsAfterModel) × ((next : Model → Outcome) → guarded model log places next ≡ shutEarly num p)
 
   pub record OpenTo (starts : List ℕ) (v c : ℕ) : Type 0 where
     pub modelled : Modelled model
@@ -54,10 +61,10 @@ module _ (model log : List ℤ) (places : ℕ) where
   pub refused-by-size : {r : Past} {num p : ℕ} → r ≡ sizesOf (length model) (length log) places → r ≡ past.Refused num p → RefusedAt num p × (p ≤ 65536)
   refused-by-size e f = go (ltb mostModelWords (length model)) (ltb mostLogWords (length log)) (ltb places fewestPlaces) (sym e ∙ f)
     where
-      go : {num p : ℕ} (a b c : Bool) → sizesBy a b c ≡ past.Refused num p → ((num ≤ 7) × ((next : Model → Outcome) → admitted a b c (readModel 0 model) next ≡ shutEarly num p)) × (p ≤ 65536)
-      go {num} {p} true b c e = let n : num ≡ 1 = cc in let q : p ≡ 0 = cc in ((omega arith, λ next. rw (n, q)), omega arith)
-      go {num} {p} false true c e = let n : num ≡ 2 = cc in let q : p ≡ 0 = cc in ((omega arith, λ next. rw (n, q)), omega arith)
-      go {num} {p} false false true e = let n : num ≡ 3 = cc in let q : p ≡ 0 = cc in ((omega arith, λ next. rw (n, q)), omega arith)
+      go : {num p : ℕ} (a b c : Bool) → sizesBy a b c ≡ past.Refused num p → ((num ≤ wordsAfterModel) × ((next : Model → Outcome) → admitted a b c (readModel 0 model) next ≡ shutEarly num p)) × (p ≤ 65536)
+      go {num} {p} true b c e = let n : num ≡ modelTooLong = cc in let q : p ≡ 0 = cc in ((omega arith, λ next. rw (n, q)), omega arith)
+      go {num} {p} false true c e = let n : num ≡ logTooLong = cc in let q : p ≡ 0 = cc in ((omega arith, λ next. rw (n, q)), omega arith)
+      go {num} {p} false false true e = let n : num ≡ placesTooFew = cc in let q : p ≡ 0 = cc in ((omega arith, λ next. rw (n, q)), omega arith)
       go false false false e = absurd (let z : _≡_ {A = ℕ} 0 1 = cc in omega arith)
 
   pub record SizesFit : Type 0 where

@@ -12,6 +12,7 @@ use lib.ListN.{length, drop, drop-of-length-le}
 use lib.Seq.{drop-cons}
 use Rattle.words.specs.ListFacts.{tested, clash}
 use Rattle.meaning.specs.Limits.{mostHints}
+use Rattle.meaning.specs.Refusals.{noConclusion}
 use Rattle.meaning.specs.Log.{Fact}
 use Rattle.meaning.specs.Outcomes.{Fault, box-empty, no-conflict, start-empty, hint-off, used-up, unfit-nothing, unfit-bound}
 use Rattle.meaning.specs.Proved.Faults.{fault}
@@ -41,7 +42,7 @@ MadeBy log at (step.NoAssignment k) = Unit {0}
 MadeBy log at (step.NeverBelow x a k) = Unit {0}
 
 module _ (held : logs.Step → Bool) (say : says.Conclusion → says.Answer) (m : Model) (log : List ℤ) (s : State) (k at : ℕ) where
-  pub ran-out : length log ≤ at → stops (shutAt 10 k at (counted false s)) ≡ advance held say m k s at (drop at log)
+  pub ran-out : length log ≤ at → stops (shutAt noConclusion k at (counted false s)) ≡ advance held say m k s at (drop at log)
   ran-out h = rw (drop-of-length-le log)
 
   advance-read : at < length log → advance held say m k s at (drop at log) ≡ afterReading held say m k s at (readStep m k at (drop at log))

@@ -12,7 +12,10 @@ use Rattle.meaning.specs.Limits.{mostVariables}
 use Rattle.meaning.specs.Log.{Fact}
 use Rattle.meaning.specs.Log as log
 use Rattle.meaning.specs.Check as says
+use Rattle.meaning.specs.Refusals.{wordsAfterConclusion}
 use Rattle.amend.specs.Bits.{bitAt}
+use Rattle.reading.specs.declared.Past.{Past}
+use Rattle.reading.specs.declared.Past.the-variants as past
 use Rattle.steps.specs.declared.Step.{Step}
 use Rattle.steps.specs.declared.Step.the-variants as step
 use Rattle.checker.specs.declared.Conclusion.{Conclusion}
@@ -58,8 +61,17 @@ toldMoved say log s k at f (moved.Stops num p held) = says.stops (says.shutAt nu
 
 -- ---- the answers that the walk's parts make
 
+-- the step could not be read: it is refused, and was held against no rule
+abbrev pub IsRefused : Past → Type 0
+IsRefused (past.Refused num p) = Unit {0}
+IsRefused (past.Next n) = ⊥
+
+abbrev pub Stopped : Past → Moved → Type 0
+Stopped (past.Refused num p) r = r ≡ moved.Stops num p false
+Stopped (past.Next n) r = ⊥
+
 abbrev pub concludedIf : Bool → Conclusion → Bool → ℕ → Moved
-concludedIf true c held next = moved.Stops 13 next held
+concludedIf true c held next = moved.Stops wordsAfterConclusion next held
 concludedIf false c held next = moved.Ends c held
 
 -- words follow where the next position is below the log's length

@@ -7,6 +7,7 @@ use native.Mathlib.Omega.{arith}
 use lib.IntN.{ℤ}
 use lib.ListN.{length, drop, getD, length-drop, length-append, List·getD-append}
 use lib.Seq.{drop-append-seam, drop-drop}
+use Rattle.meaning.specs.Limits.{mostLogWords, fewestPlaces}
 use Rattle.meaning.specs.Read.{got}
 use Rattle.meaning.specs.Model.{Model}
 use Rattle.meaning.specs.Log.{Fact, Step}
@@ -146,7 +147,7 @@ module _ (held : Step → Bool) (say : Conclusion → Answer) (m : Model) (log :
   ended (went {k} {at} {ws = ws} {l = l} r v u w) e = ended-more k at l (ended w (behind k at ws r e .rest-is))
 
   -- ---- the places
-  module _ (lent : List ℕ) {starts : List ℕ} {j : ℕ} {a : Answer} (enough : length log ≤ 16384) (room : 4096 ≤ length lent) (t : Told held say m 0 0 [] log starts j a) where
+  module _ (lent : List ℕ) {starts : List ℕ} {j : ℕ} {a : Answer} (enough : length log ≤ mostLogWords) (room : fewestPlaces ≤ length lent) (t : Told held say m 0 0 [] log starts j a) where
     abbrev filled : List ℕ
     filled = starts ++ drop (length starts) lent
 

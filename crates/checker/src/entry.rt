@@ -12,7 +12,7 @@ ghost use mathlib.Core.Path.{_≡_};
 ghost use Prim.Native.Nat.{_≤_};
 ghost use lib.ListN.{length};
 ghost use Rattle.meaning.specs.Limits.{mostRows};
-ghost use Rattle.checker.specs.Entry.{sizesOf, Enters, refusalOf};
+ghost use Rattle.checker.specs.Entry.{sizesOf, Enters, RefusedBelow, ToldEarly};
 
 // The sizes, in their order.
 fn sizes(model: usize, log: usize, places: usize) -> Past
@@ -43,10 +43,18 @@ pub fn enter(model: &[i32], log: &[i32], places: usize, row_starts: &mut [u32]) 
 }
 
 // A refusal before the walk carries step 0.
-pub fn refusal(number: u32, position: usize) -> Answer
-    requires { ⌜ position ≤ 65536 ⌝ }
-    ensures { λ r. ⌜ r ≡ refusalOf number position ⌝ }
+pub fn refused(e: Past) -> Answer
+    requires { ⌜ RefusedBelow 65536 e ⌝ }
+    ensures { λ r. ⌜ ToldEarly e r ⌝ }
 {
+    let Past::Refused(number, position) = e else {
+        // No caller comes here.
+        return Answer::Refused {
+            number: MODEL_TOO_LONG,
+            step: 0,
+            position: 0,
+        };
+    };
     Answer::Refused {
         number,
         step: 0,

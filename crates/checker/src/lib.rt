@@ -74,20 +74,18 @@ pub fn check(model: &[i32], log: &[i32], places: &mut [u32]) -> Answer
 {
     let mut row_starts = [0u32; MOST_ROWS];
     let e = entry::enter(model, log, places.len(), &mut row_starts);
-    match e {
-        Past::Refused(number, position) => entry::refusal(number, position),
-        Past::Next(_) => {
-            let task = Task {
-                variables: model::variables_of(model),
-                rows: model::rows_of(model),
-                whole: true,
-                changed: 0,
-            };
-            let mut cells = [0i32; BOX_WORDS];
-            let w = walk::walk(model, &row_starts, task, log, &mut *places, &mut cells);
-            w.answer
-        }
-    }
+    let Past::Next(_) = e else {
+        return entry::refused(e);
+    };
+    let task = Task {
+        variables: model::variables_of(model),
+        rows: model::rows_of(model),
+        whole: true,
+        changed: 0,
+    };
+    let mut cells = [0i32; BOX_WORDS];
+    let w = walk::walk(model, &row_starts, task, log, &mut *places, &mut cells);
+    w.answer
 }
 
 // How many rows are reported: in whole mode all.
@@ -107,31 +105,29 @@ pub fn recheck(old: &[i32], new: &[i32], log: &[i32], places: &mut [u32]) -> Rec
 {
     let mut row_starts = [0u32; MOST_ROWS];
     let e = entry::enter(new, log, places.len(), &mut row_starts);
-    match e {
-        Past::Refused(number, position) => Rechecked {
-            answer: entry::refusal(number, position),
+    let Past::Next(_) = e else {
+        return Rechecked {
+            answer: entry::refused(e),
             changed: 0,
             judged: 0,
-        },
-        Past::Next(_) => {
-            let variables = model::variables_of(new);
-            let rows = model::rows_of(new);
-            let amended = amend::compare(old, new, &row_starts, variables, rows);
-            let task = Task {
-                variables,
-                rows,
-                whole: amended.whole,
-                changed: amended.changed,
-            };
-            let mut cells = [0i32; BOX_WORDS];
-            let w = walk::walk(new, &row_starts, task, log, &mut *places, &mut cells);
-            let changed = rows_reported(amended, rows);
-            let answer = w.answer;
-            Rechecked {
-                answer,
-                changed,
-                judged: w.judged,
-            }
-        }
+        };
+    };
+    let variables = model::variables_of(new);
+    let rows = model::rows_of(new);
+    let amended = amend::compare(old, new, &row_starts, variables, rows);
+    let task = Task {
+        variables,
+        rows,
+        whole: amended.whole,
+        changed: amended.changed,
+    };
+    let mut cells = [0i32; BOX_WORDS];
+    let w = walk::walk(new, &row_starts, task, log, &mut *places, &mut cells);
+    let changed = rows_reported(amended, rows);
+    let answer = w.answer;
+    Rechecked {
+        answer,
+        changed,
+        judged: w.judged,
     }
 }

@@ -8,6 +8,7 @@ use amend;
 use judging;
 use judging::Verdict;
 use reading::Past;
+use reading::refusals::LOG_WORD_OUTSIDE;
 use reading::refusals::NO_CONCLUSION;
 use reading::refusals::WORDS_AFTER_CONCLUSION;
 use steps;
@@ -17,11 +18,11 @@ ghost use mathlib.Core.Path.{_≡_};
 ghost use Prim.Native.Nat.{ℕ, _+_, _*_, _≤_, _<_};
 ghost use lib.ListN.{length, drop, set};
 ghost use mathlib.Core.List.{[]};
-ghost use Rattle.meaning.specs.Limits.{mostRows, mostLogWords};
+ghost use Rattle.meaning.specs.Limits.{mostRows};
 ghost use Rattle.meaning.specs.Check.{advance, oneMore, over};
 ghost use Rattle.steps.specs.Facts.{madeFact};
 ghost use Rattle.steps.specs.Told.{stepOf};
-ghost use Rattle.checker.specs.Told.{toldMoved, heldBy, sayBy, answerBy, afterPassing, concluded, RowBelow, Tells};
+ghost use Rattle.checker.specs.Told.{toldMoved, heldBy, sayBy, answerBy, afterPassing, concluded, RowBelow, Tells, IsRefused, Stopped};
 ghost use Rattle.judging.specs.Boxes.{boxRoom};
 ghost use Rattle.model.specs.Planned.{modelOf, Planned};
 ghost use Rattle.judging.specs.Cited.{Cited};
@@ -65,6 +66,18 @@ fn conclude(c: Conclusion, held: bool, next: usize, len: usize) -> Moved
     Moved::Ends(c, held)
 }
 
+// A step that could not be read is refused before any rule is looked at.
+fn stopped(g: Past) -> Moved
+    requires { ⌜ IsRefused g ⌝ }
+    ensures { λ r. ⌜ Stopped g r ⌝ }
+{
+    let Past::Refused(number, position) = g else {
+        // No caller comes here.
+        return Moved::Stops(LOG_WORD_OUTSIDE, 0, false);
+    };
+    Moved::Stops(number, position, false)
+}
+
 // The step that begins at a position, after those passed, is read and, where it is held, judged.
 fn one_step(
     model: &[i32],
@@ -75,7 +88,7 @@ fn one_step(
     at: usize,
     cells: &mut [i32],
 ) -> Moved
-    requires { ⌜ Planned (now model) (now «row_starts») (task .variables) (task .rows) × Cited (task .variables) (now log) (now passed) (length (now passed)) × (boxRoom (task .variables) ≤ length (now cells)) × (length (now log) ≤ mostLogWords) × (at ≤ length (now log)) × (length (now passed) ≤ at) ⌝ }
+    requires { ⌜ Planned (now model) (now «row_starts») (task .variables) (task .rows) × Cited (task .variables) (now log) (now passed) (length (now passed)) × (boxRoom (task .variables) ≤ length (now cells)) × (length (now log) ≤ 65536) × (at ≤ length (now log)) × (length (now passed) ≤ at) ⌝ }
     ensures moved { λ r. ⌜ ((j : ℕ) → toldMoved (sayBy (task .whole)) (now (log .entry)) (stateAt (madeFact (now (log .entry))) (now (passed .entry)) j) (length (now (passed .entry))) at (madeFact (now (log .entry)) at) r ≡ advance (heldBy (task .whole) (task .changed)) (sayBy (task .whole)) (modelOf (now (model .entry))) (length (now (passed .entry))) (stateAt (madeFact (now (log .entry))) (now (passed .entry)) j) at (drop at (now (log .entry)))) ⌝ }
     ensures leads { λ r. ⌜ LeadsTo (task .variables) (now (log .entry)) at r ⌝ }
 {
@@ -84,28 +97,18 @@ fn one_step(
     }
     let k = passed.len();
     let g = steps::read_step(log, at, k, task.variables, task.rows);
-    match g {
-        Past::Refused(num, p) => Moved::Stops(num, p, false),
-        Past::Next(next) => {
-            let step = steps::step_at(log, at);
-            let held = is_held(task, step);
-            if !held {
-                return after_passing(step, held, next, log.len());
-            }
-            let verdict = judging::judge(
-                model,
-                row_starts,
-                task.variables,
-                log,
-                passed,
-                step,
-                cells,
-            );
-            match verdict {
-                Verdict::Passes => after_passing(step, held, next, log.len()),
-                Verdict::Fails(num, p) => Moved::Stops(num, p, held),
-            }
-        }
+    let Past::Next(next) = g else {
+        return stopped(g);
+    };
+    let step = steps::step_at(log, at);
+    let held = is_held(task, step);
+    if !held {
+        return after_passing(step, held, next, log.len());
+    }
+    let verdict = judging::judge(model, row_starts, task.variables, log, passed, step, cells);
+    match verdict {
+        Verdict::Passes => after_passing(step, held, next, log.len()),
+        Verdict::Fails(num, p) => Moved::Stops(num, p, held),
     }
 }
 
@@ -145,7 +148,7 @@ pub fn walk(
     places: &mut [u32],
     cells: &mut [i32],
 ) -> Walked
-    requires { ⌜ Planned (now model) (now «row_starts») (task .variables) (task .rows) × (length (now log) ≤ mostLogWords) × (length (now log) ≤ 4 * length (now places)) × (boxRoom (task .variables) ≤ length (now cells)) ⌝ }
+    requires { ⌜ Planned (now model) (now «row_starts») (task .variables) (task .rows) × (length (now log) ≤ 65536) × (length (now log) ≤ 4 * length (now places)) × (boxRoom (task .variables) ≤ length (now cells)) ⌝ }
     ensures { λ r. ⌜ Tells r (now (places .entry)) (now (places .exit)) (over (heldBy (task .whole) (task .changed)) (sayBy (task .whole)) (modelOf (now (model .entry))) (now (log .entry))) ⌝ }
 {
     let mut at: usize = 0;

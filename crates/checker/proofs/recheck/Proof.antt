@@ -10,8 +10,8 @@ use Rattle.checker.proofs.recheck.Statement.{statement}
 use Rattle.checker.proofs.recheck.Tie as tie
 
 -- the walk may not begin
-refused : (c : tie.After-known-told) → let a = c .before .before .before .before .before .before .before .args in RefusedAt (now (a .new)) (now (a .log)) (length (now (a .places))) (c .before .e .given .0 .0) (c .before .e .given .0 .1 .0) × (c .before .e .given .0 .1 .0 ≤ 65536)
-refused c = rw (c .before .e .given .1) at (c .before .before .before .before .enter .ensures)
+refused : (c : tie.After-enum-told2) → let a = c .before .before .before .before .before .before .args in RefusedAt (now (a .new)) (now (a .log)) (length (now (a .places))) (c .enum-told2 .given .0 .0) (c .enum-told2 .given .0 .1 .0) × (c .enum-told2 .given .0 .1 .0 ≤ 65536)
+refused c = rw (c .enum-told2 .given .1) at (c .before .before .before .enter .ensures)
 
 -- it may, and the model has so many variables and rows
 way : (c : tie.After-enum-told) → let a = c .before .before .before .before .before .before .args in let m = modelOf (now (a .new)) in OpenTo (now (a .new)) (now (a .log)) (length (now (a .places))) (c .before .before .before .enter .last .1 .1 .1 .0) (length (m .bounds)) (length (m .rows))
@@ -23,8 +23,8 @@ open-way c = rw (c .before .variables-of .ensures, c .rows-of .ensures) (way (c 
 returns : tie.Need-returns
 returns c =
     let k = c .before in
-    let a = k .before .before .before .before .before .before .before .args in
-    rw (c .refusal .ensures) (rechecks-refused (now (a .old)) (now (a .new)) (now (a .log)) (length (now (a .places))) (now (a .places)) _ _ (refused k .0))
+    let a = k .before .before .before .before .before .before .args in
+    rw (rw (k .enum-told2 .given .1) at (c .refused .ensures)) (rechecks-refused (now (a .old)) (now (a .new)) (now (a .log)) (length (now (a .places))) (now (a .places)) _ _ (refused k .0))
 
 returns-2 : tie.Need-returns-2
 returns-2 c =
@@ -41,16 +41,16 @@ recheck-spec =
     (λ c. search needs)
     (λ c κs. search needs)
     (λ c. search needs)
-    (λ c κs. refused c .1)
     (λ c. search needs)
+    (λ c κs. rw (c .enum-told2 .given .1) (refused c .1))
+    returns
     (λ c κs. way c .modelled)
     (λ c κs. way (c .before) .modelled)
     (λ c. search needs)
     (λ c κs. open-way (c .before) .planned)
     (λ c. search needs)
     (λ c. search needs)
-    (λ c κs. let w = open-way (c .before .before .before .before .before) in (w .planned, w .log-fits, omega (arith, w .log-fits, w .places-suffice), omega (arith, w .planned .few-variables)))
+    (λ c κs. let w = open-way (c .before .before .before .before .before) in (w .planned, omega (arith, w .log-fits), omega (arith, w .log-fits, w .places-suffice), omega (arith, w .planned .few-variables)))
     (λ c κs. open-way (c .before .before .before .before .before .before .before .before .before) .planned .few-rows)
-    returns
     (λ c. search needs)
     returns-2)

@@ -20,11 +20,11 @@ use Rattle.checker.proofs.walk.one_step.Statement.{statement}
 use Rattle.checker.proofs.walk.one_step.Tie as tie
 
 -- the step was read over
-over : (c : tie.After-known-told2) → let a = c .before .before .before .before .before .before .before .args in Stepped (a .task .variables) (a .task .rows) (length (now (a .passed))) (now (a .log)) (a .at) (c .before .g2 .given .0 .0)
-over c = stepped (c .before .before .before .read-step .ensures) (c .before .g2 .given .1)
+over : (c : tie.After-known-told) → let a = c .before .before .before .before .before .before .before .args in Stepped (a .task .variables) (a .task .rows) (length (now (a .passed))) (now (a .log)) (a .at) (c .before .g .given .0 .0)
+over c = stepped (c .before .before .before .read-step .ensures) (c .before .g .given .1)
 
 -- what is known of it
-reached : (c : tie.After-step-at) → let k = c .before in let a = k .before .before .before .before .before .before .before .args in Reached (modelOf (now (a .model))) (a .task .variables) (a .task .rows) (now (a .log)) (length (now (a .passed))) (a .at) (c .step-at .result) (k .before .g2 .given .0 .0)
+reached : (c : tie.After-step-at) → let k = c .before in let a = k .before .before .before .before .before .before .before .args in Reached (modelOf (now (a .model))) (a .task .variables) (a .task .rows) (now (a .log)) (length (now (a .passed))) (a .at) (c .step-at .result) (k .before .g .given .0 .0)
 reached c =
     let k = c .before in
     let r = k .before .before .before in
@@ -38,14 +38,28 @@ returns c =
     let l = now (a .log) in
     (λ j. ran-out (heldBy (a .task .whole) (a .task .changed)) (sayBy (a .task .whole)) (modelOf (now (a .model))) l (stateAt (madeFact l) (now (a .passed)) j) (length (now (a .passed))) (a .at) (c .if1 .taken), omega (arith, c .before .before .before .pre .3, c .before .before .before .pre .4))
 
+-- a step that could not be read
+returns-2 : tie.Need-returns-2
+returns-2 c =
+    let d = c .before in
+    let r = d .before .before in
+    let o = r .before .before .before .before in
+    let a = o .args in
+    let l = now (a .log) in
+    let p = o .pre .0 in
+    let m = modelOf (now (a .model)) in
+    let e = d .enum-told .given .1 in
+    let u = unread (r .read-step .ensures) e in
+    rw (rw e at (c .stopped .ensures)) (λ j. not-read (heldBy (a .task .whole) (a .task .changed)) (sayBy (a .task .whole)) m l (stateAt (madeFact l) (now (a .passed)) j) (length (now (a .passed))) (a .at) (r .before .if1 .left) (refused-so m (p .variables) (p .rows) u), omega (arith, u .inside (o .pre .4), o .pre .3))
+
 is-held-requires : tie.Need-is-held-requires
 is-held-requires c κs =
     let o = c .before .before .before .before .before .before .before .before in
     row-below (o .args .task .variables) (o .args .task .rows) (length (now (o .args .passed))) (now (o .args .log)) (c .step-at .result) mostRows (o .pre .0 .few-rows) (reached c .parts)
 
 -- a step that is not held passes
-returns-2 : tie.Need-returns-2
-returns-2 c =
+returns-3 : tie.Need-returns-3
+returns-3 c =
     let h = c .before .before in
     let t = h .before in
     let a = t .before .before .before .before .before .before .before .before .args in
@@ -71,17 +85,6 @@ judge-requires c κs =
       p .2,
     )
 
-returns-3 : tie.Need-returns-3
-returns-3 c =
-    let r = c .before .before .before in
-    let o = r .before .before .before .before in
-    let a = o .args in
-    let l = now (a .log) in
-    let p = o .pre .0 in
-    let m = modelOf (now (a .model)) in
-    let u = unread (r .read-step .ensures) (c .before .g .given .1) in
-    (λ j. not-read (heldBy (a .task .whole) (a .task .changed)) (sayBy (a .task .whole)) m l (stateAt (madeFact l) (now (a .passed)) j) (length (now (a .passed))) (a .at) (r .before .if1 .left) (refused-so m (p .variables) (p .rows) u), omega (arith, u .inside (o .pre .4), o .pre .3))
-
 -- the verdict of a step that is held
 verdict-is : (c : tie.After-judge) → let t = c .before .before .before .before in let a = t .before .before .before .before .before .before .before .before .args in
     toldVerdict (c .judge .result) ≡ verdictOf (c .before .before .before .is-held .result) (modelOf (now (a .model))) (map (madeFact (now (a .log))) (now (a .passed))) (stepOf (now (a .log)) (t .step-at .result))
@@ -101,7 +104,7 @@ returns-4 c =
     rw (c .after-passing2 .ensures) (
       λ j.
           has-passed (heldBy (a .task .whole) (a .task .changed)) (sayBy (a .task .whole)) (modelOf (now (a .model))) l (stateAt (madeFact l) (now (a .passed)) j) (length (now (a .passed))) (a .at) (g .below) (t .step-at .result) _ (g .reads)
-          (h .is-held .result) (held-any (a .task .whole) (a .task .changed) l (t .step-at .result) ∙ sym (h .is-held .ensures)) (g .made) (sym (verdict-is d) ∙ ap toldVerdict (c .before .enum-told .given .1)),
+          (h .is-held .result) (held-any (a .task .whole) (a .task .changed) l (t .step-at .result) ∙ sym (h .is-held .ensures)) (g .made) (sym (verdict-is d) ∙ ap toldVerdict (c .before .enum-told2 .given .1)),
       g .leads (h .is-held .result),
     )
 
@@ -128,15 +131,16 @@ one-step-spec =
     (λ c κs. search needs)
     (λ c. search needs)
     (λ c. search needs)
+    (λ c κs. rw (c .enum-told .given .1) tt)
+    returns-2
     (λ c κs. over c .stands)
     is-held-requires
     (λ c κs. search needs)
-    returns-2
+    returns-3
     judge-requires
     (λ c. search needs)
     (λ c κs. search needs)
     (λ c. search needs)
-    returns-3
     (λ c. search needs)
     returns-4
     (λ c. search needs)
