@@ -12,6 +12,7 @@ use Rattle.words.specs.Int.{eqZ}
 use Rattle.words.specs.Lists.{all, member, isEmpty, least, largest, All}
 use Rattle.words.specs.ListFacts.{or-none}
 use Rattle.domain.specs.Box.{variables, values, stands}
+use Rattle.meaning.specs.Limits.{mostValue}
 use Rattle.meaning.specs.Model.{Bounds}
 use Rattle.meaning.specs.Log.{relationOf, Atom}
 use Rattle.meaning.specs.Box.{meets, left, anyEmpty}
@@ -52,5 +53,5 @@ module _ (cells : List ℤ) (bs : List Bounds) (atoms : List Atom) (agrees : Agr
   pub all-some : anyEmpty bs atoms (length bs) ≡ false → (x : ℕ) → x < variables cells → isEmpty (values cells x) ≡ false
   all-some e x h = empty-left x ∙ none-empty (length bs) x e (omega (arith, agrees .counted))
 
-  pub all-small : All KnownBounds bs → (x : ℕ) (v : ℤ) → In v (values cells x) → natAbs v ≤ 100000
+  pub all-small : All KnownBounds bs → (x : ℕ) (v : ℤ) → In v (values cells x) → natAbs v ≤ mostValue
   all-small known x v i = left-small bs atoms x known (rw (values-left x) at i)

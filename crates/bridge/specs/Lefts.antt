@@ -9,6 +9,7 @@ use lib.ListN.{length, getD}
 use Rattle.words.specs.Int.{zz, abs-is, one-side}
 use Rattle.words.specs.Lists.{all, keep, All}
 use Rattle.words.specs.ListFacts.{in-keep, each-or}
+use Rattle.meaning.specs.Limits.{mostValue}
 use Rattle.meaning.specs.Model.{Bounds}
 use Rattle.meaning.specs.Log.{Atom}
 use Rattle.meaning.specs.Box.{metBy, declared, declaredAt, left}
@@ -54,7 +55,7 @@ left-turned bs xs ys =
     (λ v. all-append (metBy x v) xs ys ∙ and-swap (all (metBy x v) xs) (all (metBy x v) ys) ∙ sym (all-append (metBy x v) ys xs))
 
 -- ---- what is left lies within known bounds
-pub left-small : (bs : List Bounds) (atoms : List Atom) (x : ℕ) {v : ℤ} → All KnownBounds bs → In v (left bs atoms x) → natAbs v ≤ 100000
+pub left-small : (bs : List Bounds) (atoms : List Atom) (x : ℕ) {v : ℤ} → All KnownBounds bs → In v (left bs atoms x) → natAbs v ≤ mostValue
 left-small bs atoms x {v} known i =
     let b = in-declaredAt bs x known (in-keep (λ v. all (metBy x v) atoms) (declaredAt bs x) i .0) in
     let k = each-or (record { low = pos 0; high = pos 0 }) x (record { low-least = refl; low-high = refl; high-most = refl }) known in
