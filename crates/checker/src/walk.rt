@@ -136,7 +136,7 @@ fn note_start(k: usize, at: usize, places: &mut [u32])
     ensures { λ r. ⌜ now (places .exit) ≡ set (now (places .entry)) k at ⌝ }
 {
     let start = at as u32;
-    words::put_place(places, k, start);
+    words::put_place(k, start, places);
 }
 
 // Every step from the first on. The first word of each step passed goes into the places.

@@ -68,7 +68,7 @@ pub fn word(s: &[i32], i: usize) -> i32
     s[i]
 }
 
-pub fn put_place(places: &mut [u32], k: usize, start: u32)
+pub fn put_place(k: usize, start: u32, places: &mut [u32])
     requires { ⌜ k < length (now places) ⌝ }
     ensures { λ r. ⌜ now (places .exit) ≡ set (now (places .entry)) k start ⌝ }
 {
