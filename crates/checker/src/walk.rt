@@ -23,7 +23,7 @@ ghost use Rattle.meaning.specs.Check.{advance, oneMore, over};
 ghost use Rattle.steps.specs.Facts.{madeFact};
 ghost use Rattle.steps.specs.Told.{stepOf};
 ghost use Rattle.checker.specs.Told.{toldMoved, heldBy, sayBy, answerBy, afterPassing, concluded, RowBelow, Tells, IsRefused, Stopped};
-ghost use Rattle.judging.specs.Boxes.{boxRoom};
+ghost use Rattle.boxes.specs.Boxes.{boxRoom};
 ghost use Rattle.model.specs.Planned.{modelOf, Planned};
 ghost use Rattle.judging.specs.Cited.{Cited};
 ghost use Rattle.checker.specs.LeadsTo.{LeadsTo};

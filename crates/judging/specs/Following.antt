@@ -9,6 +9,7 @@ use native.Mathlib.Numerals.{add-one}
 use lib.IntN.{ℤ}
 use lib.ListN.{length}
 use Rattle.words.specs.Lists.{all}
+use Rattle.meaning.specs.Refusals.{hintDoesNotApply, hintsUsedUp}
 use Rattle.meaning.specs.Model.{Bounds}
 use Rattle.meaning.specs.Log.{Atom, Fact}
 use Rattle.meaning.specs.Box.{left}
@@ -19,9 +20,9 @@ use Rattle.bridge.specs.Answers.{holds-left, empty-left}
 use Rattle.reading.specs.At.{natAt, intAt, eachAt}
 use Rattle.steps.specs.Facts.{AtomIn, FactIn, atomAt, thenAt, factOf}
 use Rattle.steps.specs.declared.FactPlace.{FactPlace}
-use Rattle.judging.specs.InTurn.{fromAll}
-use Rattle.judging.specs.Boxes.{AtomsIn, narrowedAt, emptyAt}
-use Rattle.judging.specs.Filled.{Holds, holds-front, atoms-first, atoms-rest}
+use Rattle.boxes.specs.InTurn.{fromAll}
+use Rattle.boxes.specs.Boxes.{AtomsIn, narrowedAt, emptyAt}
+use Rattle.boxes.specs.Filled.{Holds, holds-front, atoms-first, atoms-rest}
 
 -- the atom at p holds for every value left; n atoms from p on do
 abbrev pub holdsAt : List ℤ → ℕ → List ℤ → Bool
@@ -69,7 +70,7 @@ module _ (v : ℕ) (log : List ℤ) (facts : ℕ → Fact) (hints many : ℕ) (b
   hints-none i h = let z : many - i ≡ 0 = omega arith in rw z
 
   module _ (cells : List ℤ) (i : ℕ) (s : Sofar cells i) where
-    pub used-up : many ≤ i → Says (fails 23 0)
+    pub used-up : many ≤ i → Says (fails hintsUsedUp 0)
     used-up h bs box e b = let g = s bs box e b in sym (g .same ∙ ap (followHints bs facts (g .narrower) i) (hints-none i h))
 
     -- hint i cites the fact that stands at f
@@ -87,7 +88,7 @@ module _ (v : ℕ) (log : List ℤ) (facts : ℕ → Fact) (hints many : ℕ) (b
           ∙ ap (λ c. takeHint bs (g .narrower) i (premisesHold bs (g .narrower) (c .premises)) (c .consequent) (later bs)) is
           ∙ ap (λ c. takeHint bs (g .narrower) i c (factOf log f .consequent) (later bs)) (sym a ∙ q)
 
-      pub not-held : holdsEach log (f .count) (f .premises) cells ≡ false → Says (fails 22 i)
+      pub not-held : holdsEach log (f .count) (f .premises) cells ≡ false → Says (fails hintDoesNotApply i)
       not-held q bs box e b = sym (taken bs box e b false q)
 
       module _ (q : holdsEach log (f .count) (f .premises) cells ≡ true) where

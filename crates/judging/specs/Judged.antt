@@ -8,6 +8,7 @@ use lib.IntN.{ℤ}
 use lib.ListN.{length, getD}
 use Rattle.words.specs.Lists.{All}
 use Rattle.meaning.specs.Limits.{mostPremises, mostHints}
+use Rattle.meaning.specs.Refusals as refusal
 use Rattle.meaning.specs.Model.{Bounds}
 use Rattle.meaning.specs.Log.{Atom, Fact}
 use Rattle.meaning.specs.Box.{left, anyEmpty, boxOf}
@@ -25,8 +26,8 @@ use Rattle.model.specs.Planned.{modelOf, Planned}
 use Rattle.rule_facts.specs.Ready.{Ready}
 use Rattle.steps.specs.Facts.{FactIn, factOf}
 use Rattle.steps.specs.declared.FactPlace.{FactPlace}
-use Rattle.judging.specs.Boxes.{boxRoom, filled, boxEmpty, Boxed}
-use Rattle.judging.specs.Filled.{Holds, holds-filled, box-empty-is}
+use Rattle.boxes.specs.Boxes.{boxRoom, filled, boxEmpty, Boxed}
+use Rattle.boxes.specs.Filled.{Holds, holds-filled, box-empty-is}
 
 -- how many rows the model in a table has
 abbrev pub rowsOf : List ℤ → ℕ
@@ -94,7 +95,7 @@ module _ (model log cells : List ℤ) (v : ℕ) (f : FactPlace) (plan : Declared
     abbrev Judged : Verdict → Type 0
     Judged w = w ≡ judgeInference bounds (judge.rowAt (modelOf model) r) (factOf log f)
 
-    pub empty-so : boxEmpty log f full ≡ true → Judged (fails 20 0)
+    pub empty-so : boxEmpty log f full ≡ true → Judged (fails refusal.boxEmpty 0)
     empty-so e = sym (ap (λ b. inferred b (conflicts (factOf log f) (left bounds box) (judge.rowAt (modelOf model) r))) (sym full-empty ∙ e))
 
     pub row-so : boxEmpty log f full ≡ false → (p : ℕ) → judge.rowAt (modelOf model) r ≡ rowAt model p → (b : Bool) → b ≡ conflicts (factOf log f) (values full) (rowAt model p) → Judged (inferred false b)
@@ -104,7 +105,7 @@ module _ (model log cells : List ℤ) (v : ℕ) (f : FactPlace) (plan : Declared
 
   -- ---- a deduction
   module _ (facts : ℕ → Fact) (hs : List ℕ) where
-    pub empty-deduced : boxEmpty log f full ≡ true → fails 20 0 ≡ judgeDeduction bounds facts (factOf log f) hs
+    pub empty-deduced : boxEmpty log f full ≡ true → fails refusal.boxEmpty 0 ≡ judgeDeduction bounds facts (factOf log f) hs
     empty-deduced e = sym (ap (λ b. deduced b (followHints bounds facts box 0 hs)) (sym full-empty ∙ e))
 
     pub hints-deduced : boxEmpty log f full ≡ false → (w : Verdict) → w ≡ followHints bounds facts box 0 hs → w ≡ judgeDeduction bounds facts (factOf log f) hs

@@ -1,9 +1,5 @@
 pub mod Told
 pub mod Cited
-pub mod InTurn
-pub mod Boxes
-pub mod Filled
-pub mod Occurrences
 pub mod Judged
 pub mod Conclusions
 pub mod Following

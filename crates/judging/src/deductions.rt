@@ -1,7 +1,7 @@
 // A deduction: its hints, taken in order, empty the box of its fact.
 use crate::Verdict;
-use crate::boxes;
 use crate::cited;
+use boxes;
 use reading;
 use reading::refusals::BOX_EMPTY;
 use reading::refusals::HINT_DOES_NOT_APPLY;
@@ -19,7 +19,7 @@ ghost use Rattle.model.specs.Planned.{modelOf};
 ghost use Rattle.reading.specs.At.{natAt, eachAt};
 ghost use Rattle.steps.specs.Facts.{FactIn, factOf, madeFact};
 ghost use Rattle.steps.specs.Laws.{HintsIn};
-ghost use Rattle.judging.specs.Boxes.{boxRoom, Boxed};
+ghost use Rattle.boxes.specs.Boxes.{boxRoom, Boxed};
 ghost use Rattle.judging.specs.Cited.{Cited};
 ghost use Rattle.judging.specs.Following.{Says};
 ghost use Rattle.judging.specs.Judged.{Declared};

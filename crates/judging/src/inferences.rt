@@ -1,7 +1,7 @@
 // An inference: its row conflicts with the box of its fact.
 use crate::Verdict;
-use crate::boxes;
-use crate::occurrences;
+use boxes;
+use boxes::occurrences;
 use reading::limits::MOST_VARIABLES;
 use reading::refusals::BOX_EMPTY;
 use reading::refusals::ROW_DOES_NOT_CONFLICT;
@@ -20,7 +20,7 @@ ghost use Rattle.model.specs.Rows.{RowIn, rowAt};
 ghost use Rattle.rule_facts.specs.Ready.{Ready};
 ghost use Rattle.model.specs.Planned.{modelOf, Planned};
 ghost use Rattle.steps.specs.Facts.{FactIn, factOf};
-ghost use Rattle.judging.specs.Boxes.{boxRoom};
+ghost use Rattle.boxes.specs.Boxes.{boxRoom};
 ghost use Rattle.judging.specs.Judged.{rowsOf};
 ghost use Rattle.judging.specs.Told.{toldVerdict};
 

@@ -1,9 +1,7 @@
 // How a step is judged: the box of its fact, the row's rule, the hints, the conclusions.
-pub mod boxes;
 pub mod conclusions;
 pub mod deductions;
 pub mod inferences;
-pub mod occurrences;
 
 use deductions::Hints;
 use steps;
@@ -21,7 +19,7 @@ ghost use Rattle.steps.specs.Facts.{madeFact, madePlace, MadeBegins};
 ghost use Rattle.steps.specs.Laws.{PartsIn};
 ghost use Rattle.steps.specs.Told.{stepOf};
 ghost use Rattle.judging.specs.Told.{toldVerdict};
-ghost use Rattle.judging.specs.Boxes.{boxRoom};
+ghost use Rattle.boxes.specs.Boxes.{boxRoom};
 ghost use Rattle.judging.specs.Cited.{Cited};
 ghost use Rattle.judging.specs.Judged.{rowsOf};
 

@@ -13,8 +13,8 @@ use Rattle.domain.specs.Box.{variables}
 use Rattle.domain.specs.Box.Narrow.{room-one}
 use Rattle.reading.specs.At.{natAt, Names}
 use Rattle.steps.specs.Facts.{FactIn, factOf, madeFact}
-use Rattle.judging.specs.Boxes.{Boxed, boxed-narrowed}
-use Rattle.judging.specs.InTurn.{rest, rest-all, rest-more, rest-none}
+use Rattle.boxes.specs.Boxes.{Boxed, boxed-narrowed}
+use Rattle.boxes.specs.InTurn.{rest, rest-all, rest-more, rest-none}
 use Rattle.judging.specs.Conclusions.{cited-is}
 use Rattle.judging.specs.Following.{andHolds, holdsEach, Sofar, at-first, used-up, not-held, is-false, emptied, narrowed-on}
 use Rattle.judging.proofs.deductions.follow.Statement.{statement}

@@ -5,7 +5,7 @@ use denote.Ref.{now}
 use Rattle.meaning.specs.Limits.{mostVariables}
 use Rattle.domain.specs.Box.{variables}
 use Rattle.reading.specs.At.{natAt}
-use Rattle.judging.specs.Occurrences.{blank-room, asked-occurs}
+use Rattle.boxes.specs.Occurrences.{blank-room, asked-occurs}
 use borrow.Author.Needs.{needs}
 use Rattle.judging.proofs.inferences.row_conflicts.Statement.{statement}
 use Rattle.judging.proofs.inferences.row_conflicts.Tie as tie

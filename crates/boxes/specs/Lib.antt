@@ -1,0 +1,4 @@
+pub mod InTurn
+pub mod Boxes
+pub mod Filled
+pub mod Occurrences
