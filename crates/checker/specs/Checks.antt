@@ -20,12 +20,17 @@ use Rattle.model.specs.Planned.{modelOf}
 use Rattle.amend.specs.Bits.{bitAt}
 use Rattle.amend.specs.Changed.{Answered}
 use Rattle.amend.specs.Only.{Otherwise, refused, unfit, whole-told, Partly, partly-told}
-use Rattle.checker.specs.Told.{toldAnswer, heldBy, sayBy, sizeBy, NamesIn, Tells}
+use Rattle.walking.specs.Told.{toldAnswer, heldBy, sayBy, NamesIn, Tells}
 use Rattle.checker.specs.Entry.{RefusedAt, OpenTo}
-use Rattle.checker.specs.declared.Answer.{Answer}
-use Rattle.checker.specs.declared.Answer.the-variants as answer
-use Rattle.checker.specs.declared.Walked.{Walked}
+use Rattle.walking.specs.declared.Answer.{Answer}
+use Rattle.walking.specs.declared.Answer.the-variants as answer
+use Rattle.walking.specs.declared.Walked.{Walked}
 use Rattle.checker.specs.declared.Rechecked.{Rechecked}
+
+-- how many rows are reported: all in whole mode
+abbrev pub sizeBy : Bool → ℕ → ℕ → ℕ
+sizeBy true set rows = rows
+sizeBy false set rows = count.ones set
 
 -- the answer tells the outcome, and the places, `lent` before and `left` after, hold its starts and are otherwise as they were
 pub record Checks (r : Answer) (lent left : List ℕ) (o : says.Outcome) : Type 0 where

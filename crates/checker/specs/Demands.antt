@@ -17,11 +17,11 @@ use Rattle.meaning.specs.Claims.{Admitted, Concludes, Holds, Cited, SameVerdict
 use Rattle.meaning.specs.Ranges.{modelTable, InRange}
 use Rattle.meaning.specs.Outcomes.{OnShut, Listed}
 use Rattle.meaning.specs.Proved.{proved}
-use Rattle.checker.specs.Told.{toldAnswer}
+use Rattle.walking.specs.Told.{toldAnswer}
 use Rattle.checker.specs.Checks.{Checks, Rechecks}
 use Rattle.checker.specs.Written.{Gives, Earned, Written, Judges, WrittenAgain, RefusedAfter, ConcludedAfter}
 use Rattle.checker.specs.WrittenSo as so
-use Rattle.checker.specs.declared.Answer.{Answer as Told}
+use Rattle.walking.specs.declared.Answer.{Answer as Told}
 use Rattle.checker.specs.declared.Rechecked.{Rechecked}
 
 pub of-check : {r : Told} {lent left : List ℕ} {o : Outcome} → Checks r lent left o → Gives (toldAnswer r) lent left o

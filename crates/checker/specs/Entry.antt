@@ -18,8 +18,8 @@ use Rattle.model.specs.Planned.{Planned, modelOf, planned, Modelled, modelled, 
 use Rattle.reading.specs.Told.{Skims}
 use Rattle.reading.specs.declared.Past.{Past}
 use Rattle.reading.specs.declared.Past.the-variants as past
-use Rattle.checker.specs.declared.Answer.{Answer}
-use Rattle.checker.specs.declared.Answer.the-variants as answer
+use Rattle.walking.specs.declared.Answer.{Answer}
+use Rattle.walking.specs.declared.Answer.the-variants as answer
 
 -- a refusal before the walk carries step 0
 abbrev pub ToldEarly : Past → Answer → Type 0

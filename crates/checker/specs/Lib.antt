@@ -1,8 +1,3 @@
-pub mod Told
-pub mod LeadsTo
-pub mod FromStep
-pub mod OneStep
-pub mod BetweenSteps
 pub mod Entry
 pub mod Checks
 pub mod Written

@@ -1,5 +1,4 @@
 // What stands before the walk: the sizes in document 01's order, then the model.
-use crate::Answer;
 use model;
 use reading::Past;
 use reading::limits::FEWEST_PLACES;
@@ -8,6 +7,7 @@ use reading::limits::MOST_MODEL_WORDS;
 use reading::refusals::LOG_TOO_LONG;
 use reading::refusals::MODEL_TOO_LONG;
 use reading::refusals::TOO_FEW_PLACES;
+use walking::Answer;
 ghost use mathlib.Core.Path.{_≡_};
 ghost use Prim.Native.Nat.{_≤_};
 ghost use lib.ListN.{length};

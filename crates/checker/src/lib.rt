@@ -1,6 +1,5 @@
 // The check of a log against a model, step by step.
 mod entry;
-pub mod walk;
 
 use amend;
 use amend::Amended;
@@ -10,56 +9,18 @@ use reading::limits::MOST_HINTS;
 use reading::limits::MOST_PREMISES;
 use reading::limits::MOST_ROWS;
 use reading::limits::MOST_VARIABLES;
-use words::VarNo;
+use walking;
+use walking::Answer;
+use walking::Task;
 ghost use mathlib.Core.Path.{_≡_};
 ghost use Prim.Native.Nat.{_≤_};
 ghost use lib.ListN.{length};
 ghost use Rattle.meaning.specs.Limits.{mostRows};
 ghost use Rattle.meaning.specs.Check.{check, recheck};
-ghost use Rattle.checker.specs.Checks.{Checks, Rechecks};
-ghost use Rattle.checker.specs.Told.{sizeBy};
+ghost use Rattle.checker.specs.Checks.{Checks, Rechecks, sizeBy};
 
 // The words of a step's box: two counts, two ends for each variable, and two words for each atom of the fact and for each hint.
 const BOX_WORDS: usize = 2 * MOST_VARIABLES + 2 * (MOST_PREMISES + 1 + MOST_HINTS) + 2;
-
-pub enum Conclusion {
-    NoAssignment,
-    NeverBelow(VarNo, i32),
-}
-
-pub enum Answer {
-    Refused {
-        number: u32,
-        step: u32,
-        position: u32,
-    },
-    Accepted(Conclusion),
-    Carried(Conclusion),
-}
-
-// What the walk has to do: against how large a model, and which steps it holds against their rule: all in whole mode, else the inferences that cite a changed row.
-pub struct Task {
-    pub variables: usize,
-    pub rows: usize,
-    pub whole: bool,
-    pub changed: u64,
-}
-
-// What one step leads to; the flag says whether it was held against its rule.
-pub enum Moved {
-    // It passed, and the next step begins there.
-    Goes(usize, bool),
-    // It is the conclusion, and nothing follows it.
-    Ends(Conclusion, bool),
-    // It is refused: number and position.
-    Stops(u32, usize, bool),
-}
-
-// The answer, and how many steps were held against their rule.
-pub struct Walked {
-    pub answer: Answer,
-    pub judged: u32,
-}
 
 // The recheck's answer: the size of the changed set, and how many steps were held against their rule.
 pub struct Rechecked {
@@ -84,7 +45,7 @@ pub fn check(model: &[i32], log: &[i32], places: &mut [u32]) -> Answer
         changed: 0,
     };
     let mut cells = [0i32; BOX_WORDS];
-    let w = walk::walk(model, &row_starts, task, log, &mut *places, &mut cells);
+    let w = walking::walk(model, &row_starts, task, log, &mut *places, &mut cells);
     w.answer
 }
 
@@ -122,7 +83,7 @@ pub fn recheck(old: &[i32], new: &[i32], log: &[i32], places: &mut [u32]) -> Rec
         changed: amended.changed,
     };
     let mut cells = [0i32; BOX_WORDS];
-    let w = walk::walk(new, &row_starts, task, log, &mut *places, &mut cells);
+    let w = walking::walk(new, &row_starts, task, log, &mut *places, &mut cells);
     let changed = rows_reported(amended, rows);
     let answer = w.answer;
     Rechecked {

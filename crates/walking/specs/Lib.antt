@@ -1,0 +1,6 @@
+pub mod Told
+pub mod LeadsTo
+pub mod FromStep
+pub mod OneStep
+pub mod BetweenSteps
+pub mod Only
