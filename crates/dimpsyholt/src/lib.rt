@@ -1,12 +1,12 @@
 // The C interface: the check and the recheck over lent tables, whose answer is nine numbers by value.
 use checker;
-use checker::Answer;
-use checker::Conclusion;
+use walking::Answer;
+use walking::Conclusion;
 ghost use mathlib.Core.Path.{_≡_};
 ghost use lib.ListN.{length};
 ghost use Rattle.meaning.specs.Limits.{mostVariables};
 ghost use Rattle.meaning.specs.Check as says;
-ghost use Rattle.checker.specs.Told.{toldConclusion, toldAnswer, ConclusionIn, NamesIn};
+ghost use Rattle.walking.specs.Told.{toldConclusion, toldAnswer, ConclusionIn, NamesIn};
 ghost use Rattle.dimpsyholt.specs.Fields.{reached, fieldsOf, CheckTold, RecheckTold};
 
 // The answer as include/dimpsyholt.h has it.

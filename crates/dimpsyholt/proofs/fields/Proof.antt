@@ -2,7 +2,7 @@
 use mathlib.Core.Path.{subst}
 use borrow.Author.Needs.{needs}
 use Rattle.meaning.specs.Limits.{mostVariables}
-use Rattle.checker.specs.Told.{NamesIn}
+use Rattle.walking.specs.Told.{NamesIn}
 use Rattle.dimpsyholt.proofs.fields.Statement.{statement}
 use Rattle.dimpsyholt.proofs.fields.Tie as tie
 

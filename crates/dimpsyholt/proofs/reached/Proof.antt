@@ -5,7 +5,7 @@ use mir.Facts.{toZ-ofZ}
 use Rattle.words.specs.Int.{fit}
 use borrow.Author.Needs.{needs}
 use Rattle.meaning.specs.Limits.{mostVariables}
-use Rattle.checker.specs.Told.{ConclusionIn}
+use Rattle.walking.specs.Told.{ConclusionIn}
 use Rattle.dimpsyholt.proofs.reached.Statement.{statement}
 use Rattle.dimpsyholt.proofs.reached.Tie as tie
 
