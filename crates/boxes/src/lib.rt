@@ -1,4 +1,4 @@
-// The box of a fact: the declared bounds, narrowed by every premise and by the negated consequent.
+// The box of a fact: the declared bounds, narrowed by every premise and by the negated consequent. Beside it, in `occurrences`, the variables of which the fact speaks.
 pub mod occurrences;
 
 use domain;
