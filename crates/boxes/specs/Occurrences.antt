@@ -12,7 +12,7 @@ use Rattle.marks.specs.Marks.{marked, added, added-is, added-length, blank, bla
 use Rattle.meaning.specs.Log.{Atom}
 use Rattle.meaning.specs.Rule.{optional}
 use Rattle.reading.specs.At.{natAt, eachAt}
-use Rattle.rules.specs.Occurring.{Occurring}
+use Rattle.rule_facts.specs.Occurring.{Occurring}
 use Rattle.steps.specs.Facts.{AtomIn, FactIn, atomAt, thenAt, factOf}
 use Rattle.steps.specs.declared.FactPlace.{FactPlace}
 use Rattle.boxes.specs.InTurn.{inTurn}

@@ -1,2 +1,3 @@
 pub mod Ready
 pub mod Each
+pub mod Occurring

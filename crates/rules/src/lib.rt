@@ -13,7 +13,7 @@ ghost use Rattle.domain.specs.Box.{variables, values};
 ghost use Rattle.reading.specs.At.{natAt};
 ghost use Rattle.model.specs.Rows.{RowIn, rowAt};
 ghost use Rattle.rule_facts.specs.Ready.{Ready};
-ghost use Rattle.rules.specs.Occurring.{Occurring};
+ghost use Rattle.rule_facts.specs.Occurring.{Occurring};
 
 // Does the row whose kind stands at `at` conflict with the box? All-different alone asks for the fact: only there the marked variables have to be just those that occur in it.
 pub fn conflicts(model: &[i32], at: usize, occurring: &[u64], cells: &[i32]) -> bool
