@@ -14,11 +14,11 @@ use Rattle.domain.proofs.among_eight.Statement.{statement}
 use Rattle.domain.proofs.among_eight.Tie as tie
 
 abbrev Inv-loop : tie.InvT-loop
-Inv-loop cells x k value end found₀ j₀ found j =
+Inv-loop cells first x k value end found₀ j₀ found j =
     (j ≤ k + 8) × ((found || hole cells (variables cells) k (x .0) (toZ w32 value)) ≡ hole cells (variables cells) j (x .0) (toZ w32 value))
 
 abbrev μ-loop : tie.MeasureT-loop
-μ-loop cells x k value end found₀ j₀ found j = end - j
+μ-loop cells first x k value end found₀ j₀ found j = end - j
 
 add-end : tie.Need-add-end Inv-loop μ-loop
 add-end c = search needs

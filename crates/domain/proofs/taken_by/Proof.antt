@@ -14,20 +14,11 @@ use borrow.Author.Needs.{needs}
 use Rattle.domain.proofs.taken_by.Statement.{statement}
 use Rattle.domain.proofs.taken_by.Tie as tie
 
-count-requires : tie.Need-count-requires
-count-requires c κs = search needs
-
 mul-at : tie.Need-mul-at
 mul-at c = search needs
 
-mul-at-2 : tie.Need-mul-at-2
-mul-at-2 c = search needs
-
 add-at : tie.Need-add-at
 add-at c = search needs
-
-add-at-2 : tie.Need-add-at-2
-add-at-2 c = search needs
 
 mul-w : tie.Need-mul-w
 mul-w c = search needs
@@ -52,12 +43,11 @@ takes-requires c κs = search needs
 
 returns : tie.Need-returns
 returns c =
-    let n = c .before .before .before in
-    let s = n .before in
+    let s = c .before .before .before in
     let cells = now (s .args .cells) in
-    let at = 2 * n .count .result + 2 * s .args .k + 2 in
+    let at = s .args .first + 2 * s .args .k in
     let f = s .fits .value in
-    let p : at ≡ holePlace (variables cells) (s .args .k) = let e = n .count .ensures .0 in omega arith in
+    let p : at ≡ holePlace (variables cells) (s .args .k) = let e = s .pre .1 in omega arith in
     let g = fit w32 (getD cells at (pos 0)) (c .before .before .w .given) in
     let h = fit w32 (getD cells (at + 1) (pos 0)) (c .before .v .given) in
     let m : SFits w32 (pos (s .args .x .0)) = record { sfits = omega arith } in
@@ -68,11 +58,8 @@ pub taken-by-spec : {M : Type 1} → statement M
 taken-by-spec =
     tie.close
     (tie.spec
-    count-requires
     mul-at
-    mul-at-2
     add-at
-    add-at-2
     mul-w
     shared-slice-copy-out-w
     add-v

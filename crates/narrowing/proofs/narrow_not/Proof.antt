@@ -1,0 +1,35 @@
+-- `narrow_not` meets its contract.
+use mathlib.Core.Path.{_∙_}
+use mir.Syntax.{w32}
+use mir.Facts.{toZ-ofZ}
+use Rattle.words.specs.Int.{fit}
+use borrow.Author.Needs.{needs}
+use Rattle.narrowing.proofs.narrow_not.Statement.{statement}
+use Rattle.narrowing.proofs.narrow_not.Tie as tie
+
+opposite-requires : tie.Need-opposite-requires
+opposite-requires c κs = search needs
+
+shifted-requires : tie.Need-shifted-requires
+shifted-requires c κs = search needs
+
+narrow-requires : tie.Need-narrow-requires
+narrow-requires c κs = search needs
+
+same-length : tie.Need-same-length
+same-length c = search needs
+
+returns : tie.Need-returns
+returns c =
+    let n = c .before in
+    let h = n .before .before in
+    let s = h .before .before in
+    let f = s .fits .relation in
+    let g = s .fits .value in
+    let r = fit w32 (h .before .opposite .result) (h .before .opposite .ok) in
+    let v = fit w32 (h .shifted .result) (h .shifted .ok) in
+    simp toZ-ofZ at (n .narrow .ensures) ∙ rw (simp toZ-ofZ at (h .before .opposite .ensures), simp toZ-ofZ at (h .shifted .ensures))
+
+pub narrow-not-spec : {M : Type 1} → statement M
+narrow-not-spec =
+    tie.close (tie.spec opposite-requires shifted-requires narrow-requires same-length returns)

@@ -1,0 +1,3 @@
+pub mod Narrow
+pub mod Load
+pub mod Only
