@@ -8,9 +8,9 @@ use lib.IntN.{ℤ}
 use lib.ListN.{length}
 use Rattle.words.specs.Lists.{isEmpty}
 use Rattle.meaning.specs.Limits.{mostPremises, mostHints}
-use Rattle.domain.specs.Box.{holePlace, variables, Formed, Room, values, opposite, shifted, narrowed, loaded}
-use Rattle.domain.specs.Box.Narrow.{narrowed-variables, narrowed-formed, narrowed-room, room-one}
-use Rattle.domain.specs.Box.Load.{loaded-formed, loaded-variables, loaded-room}
+use Rattle.domain.specs.Box.{holePlace, variables, Formed, values}
+use Rattle.narrowing.specs.Narrow.{Room, opposite, shifted, narrowed, narrowed-variables, narrowed-formed, narrowed-room, room-one}
+use Rattle.narrowing.specs.Load.{loaded, loaded-formed, loaded-variables, loaded-room}
 use Rattle.reading.specs.At.{natAt, intAt}
 use Rattle.steps.specs.Facts.{AtomIn}
 use Rattle.steps.specs.declared.FactPlace.{FactPlace}

@@ -18,8 +18,8 @@ use Rattle.meaning.specs.Log.{Atom}
 use Rattle.meaning.specs.Box.{metBy, declaredAt, left, anyEmpty, boxOf, addNegated, negated}
 use Rattle.meaning.specs.Proved.Narrow.{keep-all}
 use Rattle.meaning.specs.Proved.Below.{up-to}
-use Rattle.domain.specs.Box.{Room, loaded}
-use Rattle.domain.specs.Box.Narrow.{narrowed-room, room-one}
+use Rattle.narrowing.specs.Load.{loaded}
+use Rattle.narrowing.specs.Narrow.{Room, narrowed-room, room-one}
 use Rattle.bridge.specs.Agrees.{Agrees, agrees-words, agrees-words-last, agrees-negated}
 use Rattle.bridge.specs.Answers.{empty-left}
 use Rattle.reading.specs.At.{natAt, intAt, eachAt, length-each, getD-each}

@@ -2,6 +2,7 @@
 pub mod occurrences;
 
 use domain;
+use narrowing;
 use reading::variable_at;
 use steps::FactPlace;
 ghost use mathlib.Core.Path.{_≡_};
@@ -9,7 +10,8 @@ ghost use Prim.Native.Nat.{_+_, _*_, _≤_, _<_};
 ghost use lib.ListN.{length};
 ghost use Rattle.words.specs.Lists.{all};
 ghost use Rattle.meaning.specs.Limits.{mostPremises};
-ghost use Rattle.domain.specs.Box.{holePlace, variables, Formed, Room, values, stands};
+ghost use Rattle.domain.specs.Box.{holePlace, variables, Formed, values, stands};
+ghost use Rattle.narrowing.specs.Narrow.{Room};
 ghost use Rattle.reading.specs.At.{natAt, intAt};
 ghost use Rattle.steps.specs.Facts.{AtomIn, FactIn};
 ghost use Rattle.boxes.specs.Boxes.{AtomsIn, narrowedAt, narrowedEach, narrowedNot, narrowedThen, filled, emptyAt, emptyEach, emptyThen, boxEmpty};
@@ -22,7 +24,7 @@ pub fn narrow_atom(log: &[i32], at: usize, cells: &mut [i32])
     let x = variable_at(log, at);
     let relation = log[at + 1];
     let value = log[at + 2];
-    domain::narrow(x, relation, value, &mut *cells);
+    narrowing::narrow(x, relation, value, &mut *cells);
 }
 
 // The box after the negation of that atom.
@@ -33,7 +35,7 @@ fn narrow_negated(log: &[i32], at: usize, cells: &mut [i32])
     let x = variable_at(log, at);
     let relation = log[at + 1];
     let value = log[at + 2];
-    domain::narrow_not(x, relation, value, &mut *cells);
+    narrowing::narrow_not(x, relation, value, &mut *cells);
 }
 
 // The box after each of the atoms that begin at a position.
@@ -63,7 +65,7 @@ pub fn fill(model: &[i32], v: usize, log: &[i32], fact: FactPlace, cells: &mut [
     requires { ⌜ (1 + 2 * v ≤ length (now model)) × (v ≤ 65536) × FactIn v (now log) fact × (holePlace v (mostPremises + 1) ≤ length (now cells)) ⌝ }
     ensures { λ r. ⌜ now (cells .exit) ≡ filled (now (model .entry)) v (now (log .entry)) fact (now (cells .entry)) ⌝ }
 {
-    domain::load(model, 1, v, &mut *cells);
+    narrowing::load(model, 1, v, &mut *cells);
     narrow_each(log, fact.premises, fact.count, &mut *cells);
     narrow_then(log, fact.consequent, fact.then, &mut *cells);
 }

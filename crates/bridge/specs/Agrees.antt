@@ -13,10 +13,10 @@ use lib.Signed.{_≤ℤ_}
 use Rattle.words.specs.Lists.{keep, All, empty, also}
 use Rattle.words.specs.ListFacts.{tested, each-at, le-of}
 use Rattle.domain.specs.Sets.{fromTo, fromTo-span}
-use Rattle.domain.specs.Box as D
-use Rattle.domain.specs.Box.{variables, Formed, Room, values, values-beyond, stands, narrowed, loaded}
-use Rattle.domain.specs.Box.Load.{loaded-variables, loaded-formed, loaded-values}
-use Rattle.domain.specs.Box.Narrow.{narrowed-variables, narrowed-formed, narrowed-room, narrowed-own, narrowed-others, room-less, room-one}
+use Rattle.domain.specs.Box.{variables, Formed, values, values-beyond, stands}
+use Rattle.narrowing.specs.Load.{loaded, loaded-variables, loaded-formed, loaded-values}
+use Rattle.narrowing.specs.Narrow as D
+use Rattle.narrowing.specs.Narrow.{Room, narrowed, narrowed-variables, narrowed-formed, narrowed-room, narrowed-own, narrowed-others, room-less, room-one}
 use Rattle.meaning.specs.Model.{Bounds}
 use Rattle.meaning.specs.Log.{Atom}
 use Rattle.meaning.specs.Box.{negated, declared, left}

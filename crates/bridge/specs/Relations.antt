@@ -6,7 +6,7 @@ use lib.IntN.{ℤ, pos, negsuc, natAbs}
 use lib.Signed.{_≤ℤ_}
 use Rattle.words.specs.Int.{zz}
 use Rattle.domain.specs.Box.{stands}
-use Rattle.domain.specs.Box as D
+use Rattle.narrowing.specs.Narrow as D
 use Rattle.meaning.specs.Log.{Relation, atMost, atLeast, equal, notEqual, relationOf, Atom}
 use Rattle.meaning.specs.Box.{meets, opposite, shifted, negated}
 

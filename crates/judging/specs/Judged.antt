@@ -17,7 +17,7 @@ use Rattle.meaning.specs.Judge as judge
 use Rattle.meaning.specs.Judge.{judgeInference, judgeDeduction, followHints, inferred, deduced, fails, Verdict}
 use Rattle.meaning.specs.Proved.ReadModel.{KnownBounds}
 use Rattle.domain.specs.Box.{variables, values, Formed}
-use Rattle.domain.specs.Box.Load.{loaded-room}
+use Rattle.narrowing.specs.Load.{loaded-room}
 use Rattle.bridge.specs.Agrees.{agrees-loaded}
 use Rattle.bridge.specs.Answers.{all-some, all-small}
 use Rattle.reading.specs.At.{eachAt}

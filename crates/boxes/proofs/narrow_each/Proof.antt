@@ -1,7 +1,7 @@
 use Prim.Native.Nat.{suc, pred, _+_, _*_, _-_, _≤_}
 use native.Mathlib.Nat.{sub-zero}
 use Rattle.reading.specs.At.{natAt}
-use Rattle.domain.specs.Box.Narrow.{room-one}
+use Rattle.narrowing.specs.Narrow.{room-one}
 use mathlib.Core.Path.{_≡_, _∙_, sym, refl}
 use native.Mathlib.Omega.{arith}
 use denote.Ref.{now}

@@ -10,7 +10,7 @@ use denote.Ref.{now}
 use lib.ListN.{length}
 use Rattle.meaning.specs.Check.{factAt}
 use Rattle.domain.specs.Box.{variables}
-use Rattle.domain.specs.Box.Narrow.{room-one}
+use Rattle.narrowing.specs.Narrow.{room-one}
 use Rattle.reading.specs.At.{natAt, Names}
 use Rattle.steps.specs.Facts.{FactIn, factOf, madeFact}
 use Rattle.boxes.specs.Boxes.{Boxed, boxed-narrowed}
