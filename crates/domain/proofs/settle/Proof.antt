@@ -6,12 +6,12 @@ use mathlib.Core.Path.{_≡_, sym, _∙_}
 use native.Mathlib.Omega.{arith}
 use denote.Ref.{now}
 use lib.IntN.{ℤ, pos, negsuc}
-use lib.Signed.{_≤ℤ_, leZ}
+use lib.Signed.{_≤ℤ_}
 use mir.Syntax.{w32}
 use mir.Facts.{toZ-ofZ}
 use Rattle.words.specs.Int.{zz, fit, neg}
-use Rattle.words.specs.ListFacts.{and-true, le-of}
 use Rattle.windows.specs.Window.{zeros, zeros-fewer}
+use Rattle.domain.specs.Sets.{in-ends}
 use Rattle.domain.specs.Sides.{onward, windowAt, fromOn}
 use Rattle.domain.specs.Box.{values}
 use Rattle.domain.specs.Box.Answers.{window-end}
@@ -24,8 +24,7 @@ room : (c : tie.Then1) → (negsuc 2147483584 ≤ℤ c .before .before .args .fr
 room c =
     let s = c .before .before in
     let f = s .fits .from in
-    let a = and-true (leZ (negsuc 2147483584) (s .args .from)) (leZ (s .args .from) (pos 2147483584)) (simp toZ-ofZ at (sym (c .before .in-range .ensures) ∙ c .if1 .taken)) in
-    (le-of _ _ (a .0), le-of _ _ (a .1))
+    in-ends (negsuc 2147483584) (pos 2147483584) (s .args .from) (simp toZ-ofZ at (sym (c .before .in-range .ensures) ∙ c .if1 .taken))
 
 window-at-requires : tie.Need-window-at-requires
 window-at-requires c κs = let f = c .before .before .fits .from in simp toZ-ofZ (room c .0)

@@ -3,13 +3,13 @@ use mathlib.Core.Path.{_≡_, sym, _∙_}
 use native.Mathlib.Omega.{arith}
 use denote.Ref.{now}
 use lib.IntN.{pos, _+ℤ_, _-ℤ_}
-use lib.Signed.{_≤ℤ_, leZ}
+use lib.Signed.{_≤ℤ_}
 use mir.Syntax.{w32}
 use mir.Val.{SFits}
 use mir.Facts.{toZ-ofZ}
 use Rattle.words.specs.Int.{zz, fit, fits-read, sum, diff}
 use Rattle.words.specs.Words.{inZ}
-use Rattle.words.specs.ListFacts.{and-true, le-of}
+use Rattle.domain.specs.Sets.{in-ends}
 use Rattle.domain.specs.Box.{lowOf, highOf}
 use Rattle.narrowing.specs.Narrow.{excluded-outside, excluded-between, excluded-low, excluded-high, excluded-alone}
 use borrow.Author.Needs.{needs}
@@ -30,10 +30,7 @@ asked r =
 within : (t : tie.Then1) →
     let s = t .before .before .before .before .before .before in
     (lowOf (now (s .args .cells)) (s .args .x .0) ≤ℤ s .args .value) × (s .args .value ≤ℤ highOf (now (s .args .cells)) (s .args .x .0))
-within t =
-    let s = t .before .before .before .before .before .before in
-    let a = and-true (leZ (lowOf (now (s .args .cells)) (s .args .x .0)) (s .args .value)) (leZ (s .args .value) (highOf (now (s .args .cells)) (s .args .x .0))) (sym (asked (t .before)) ∙ t .if1 .taken) in
-    (le-of _ _ (a .0), le-of _ _ (a .1))
+within t = in-ends _ _ _ (sym (asked (t .before)) ∙ t .if1 .taken)
 
 within-start : (t : tie.Then1) → SFits w32 (t .before .before .before .before .before .before .args .value)
 within-start t = t .before .before .before .before .before .before .fits .value
