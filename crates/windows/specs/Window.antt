@@ -12,6 +12,9 @@ use lib.Dec.{eqb, leb, ltb}
 use lib.IntN.{ℤ, pos, _+ℤ_}
 use lib.Pow.{pow-lt, pow-mono, shl-lt, shl-exact, ones-lt, ones-split, high}
 use lib.Signed.{_≤ℤ_, _<ℤ_, leZ}
+use mir.Syntax.{w32}
+use mir.Val.{SFits, toZ}
+use mir.Facts.{toZ-ofZ}
 use Rattle.words.specs.Int.{zz, eqZ, eqZ-eq, eqZ-t, eqZ-f}
 use Rattle.words.specs.Words.{minZ, maxZ, inZ}
 use Rattle.words.specs.ListFacts.{tested, same-test, and-true, and-both, le-of, of-le}
@@ -47,6 +50,10 @@ zeros-few false m = leading-le 64 m
 pub zeros-fewer : (up : Bool) (m : ℕ) → 0 < m → m < 2 ^ 64 → zeros up m < 64
 zeros-fewer true m p h = lowest 64 m p h .0
 zeros-fewer false m p h = let t = highest 64 m p h in omega (arith, t .1)
+
+-- ---- a number that is small enough is a word
+pub small-word : (n : ℕ) → n < 2147483648 → toZ w32 n ≡ pos n
+small-word n h = let f : SFits w32 (pos n) = record { sfits = omega arith } in toZ-ofZ f
 
 -- ---- the numbers that the code makes
 pub ones-high : (n : ℕ) → n ≤ 64 → 18446744073709551615 / 2 ^ (64 - n) ≡ 2 ^ n - 1
