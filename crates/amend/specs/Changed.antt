@@ -5,7 +5,7 @@ use mathlib.Core.Bool.{Bool, true, false, not}
 use mathlib.Core.List.{List, []}
 use Rattle.meaning.specs.Model.{Model}
 use Rattle.meaning.specs.Check.{Good, good, bad, fitsOld, changes}
-use Rattle.amend.specs.Bits.{packed}
+use Rattle.row_set.specs.Bits.{packed}
 
 -- is the recheck the whole check: the old model is refused, or the number of variables, a bound or the number of rows differs
 abbrev pub wholeOf : Good → Model → Bool

@@ -15,9 +15,9 @@ use Rattle.meaning.specs.Model.{Model, readModel}
 use Rattle.meaning.specs.Check.{good, bad, goodOf, readGood, sameWords, sameBounds, fitsOld, changes}
 use Rattle.model.specs.Planned.{modelOf, Planned, Modelled, planned}
 use Rattle.model.specs.Starts.{modelStarts}
-use Rattle.amend.specs.Bits.{packed}
+use Rattle.row_set.specs.Bits.{packed}
 use Rattle.amend.specs.Changed.{Answered, Whole}
-use Rattle.amend.specs.Words.{wordsAt, other-bounds, bounds-words}
+use Rattle.row_changes.specs.Words.{wordsAt, other-bounds, bounds-words}
 
 module _ (old : List ℤ) (n : Model) where
   bad-is-whole : readGood old ≡ bad → Whole (readGood old) n

@@ -9,7 +9,7 @@ use lib.ListN.{getD}
 use Rattle.meaning.specs.Model.{Model}
 use Rattle.meaning.specs.Check.{Good, good, bad, fitsOld, changes}
 use Rattle.meaning.specs.Check as says
-use Rattle.amend.specs.Bits.{bitAt, packed, ones-packed, bit-packed}
+use Rattle.row_set.specs.Bits.{bitAt, packed, ones-packed, bit-packed}
 use Rattle.amend.specs.Changed.{Answered, changedIf}
 use Rattle.amend.specs.declared.Amended.{Amended}
 

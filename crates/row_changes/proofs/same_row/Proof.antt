@@ -1,9 +1,9 @@
 use mathlib.Core.Path.{sym, _∙_}
 use borrow.Author.Needs.{needs}
 use denote.Ref.{now}
-use Rattle.amend.specs.Rows.{other-size}
-use Rattle.amend.proofs.same_row.Statement.{statement}
-use Rattle.amend.proofs.same_row.Tie as tie
+use Rattle.row_changes.specs.Rows.{other-size}
+use Rattle.row_changes.proofs.same_row.Statement.{statement}
+use Rattle.row_changes.proofs.same_row.Tie as tie
 
 returns : tie.Need-returns
 returns c =

@@ -11,7 +11,7 @@ use Rattle.meaning.specs.Check.{sameWords, changes}
 use Rattle.model.specs.Rows.{RowIn}
 use Rattle.model.specs.RowWords.{RowBegins, rowSize, row-words, row-fits, row-begins}
 use Rattle.model.specs.Planned.{modelOf, Planned}
-use Rattle.amend.specs.Words.{wordsAt, words-length, other-words}
+use Rattle.row_changes.specs.Words.{wordsAt, words-length, other-words}
 
 -- the words of the row that begins at p
 abbrev pub rowWordsAt : List ℤ → ℕ → List ℤ

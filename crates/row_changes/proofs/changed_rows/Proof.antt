@@ -10,10 +10,10 @@ use lib.ListN.{length, take, getD}
 use lib.Seq.{take-all}
 use Rattle.meaning.specs.Check.{changes}
 use Rattle.model.specs.Planned.{modelOf}
-use Rattle.amend.specs.Bits.{packed, row-left, row-put}
-use Rattle.amend.specs.Rows.{stands, flags-length, flag-is}
-use Rattle.amend.proofs.changed_rows.Statement.{statement}
-use Rattle.amend.proofs.changed_rows.Tie as tie
+use Rattle.row_set.specs.Bits.{packed, row-left, row-put}
+use Rattle.row_changes.specs.Rows.{stands, flags-length, flag-is}
+use Rattle.row_changes.proofs.changed_rows.Statement.{statement}
+use Rattle.row_changes.proofs.changed_rows.Tie as tie
 
 abbrev Inv-loop : tie.InvT-loop
 Inv-loop old olds new starts rows set₀ k₀ set k = (k ≤ rows) × (set ≡ packed (take k (changes (modelOf old .rows) (modelOf new .rows))))

@@ -10,9 +10,9 @@ use mir.Syntax.{w32}
 use mir.Facts.{toZ-ofZ}
 use Rattle.words.specs.Int.{eqZ, fit}
 use Rattle.meaning.specs.Check.{sameWords}
-use Rattle.amend.specs.Words.{wordsAt, wordsLeft, words-all, words-more, words-stop, words-none}
-use Rattle.amend.proofs.same_words.Statement.{statement}
-use Rattle.amend.proofs.same_words.Tie as tie
+use Rattle.row_changes.specs.Words.{wordsAt, wordsLeft, words-all, words-more, words-stop, words-none}
+use Rattle.row_changes.proofs.same_words.Statement.{statement}
+use Rattle.row_changes.proofs.same_words.Tie as tie
 
 abbrev Inv-loop : tie.InvT-loop
 Inv-loop a p b q n i₀ i = (i ≤ n) × (sameWords (wordsAt a p n) (wordsAt b q n) ≡ wordsLeft a b p q n i)
