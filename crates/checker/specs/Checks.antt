@@ -17,7 +17,7 @@ use Rattle.meaning.specs.Proved.Classes.{early-is, late-is}
 use Rattle.meaning.specs.Proved.Faults.{fault-number}
 use Rattle.meaning.specs.Proved.Told.{over-told}
 use Rattle.model.specs.Planned.{modelOf}
-use Rattle.amend.specs.Bits.{bitAt}
+use Rattle.row_set.specs.Bits.{bitAt}
 use Rattle.amend.specs.Changed.{Answered}
 use Rattle.amend.specs.Only.{Otherwise, refused, unfit, whole-told, Partly, partly-told}
 use Rattle.walking.specs.Told.{toldAnswer, heldBy, sayBy, NamesIn, Tells}

@@ -9,6 +9,7 @@ use reading::limits::MOST_HINTS;
 use reading::limits::MOST_PREMISES;
 use reading::limits::MOST_ROWS;
 use reading::limits::MOST_VARIABLES;
+use row_set;
 use walking;
 use walking::Answer;
 use walking::Task;
@@ -57,7 +58,7 @@ fn rows_reported(amended: Amended, rows: usize) -> u32
     if amended.whole {
         return rows as u32;
     }
-    amend::size_of_set(amended.changed)
+    row_set::size_of_set(amended.changed)
 }
 
 // The recheck of an amended plan: only the inferences that cite a changed row are judged, or all steps where the old model does not fit.

@@ -12,7 +12,7 @@ use Rattle.meaning.specs.Log.{Fact}
 use Rattle.meaning.specs.Log as log
 use Rattle.meaning.specs.Check as says
 use Rattle.meaning.specs.Refusals.{wordsAfterConclusion}
-use Rattle.amend.specs.Bits.{bitAt}
+use Rattle.row_set.specs.Bits.{bitAt}
 use Rattle.reading.specs.declared.Past.{Past}
 use Rattle.reading.specs.declared.Past.the-variants as past
 use Rattle.steps.specs.declared.Step.{Step}

@@ -1,11 +1,11 @@
 // The walk over the log: one step after the other, each read before its meaning is looked at.
-use amend;
 use judging;
 use judging::Verdict;
 use reading::Past;
 use reading::refusals::LOG_WORD_OUTSIDE;
 use reading::refusals::NO_CONCLUSION;
 use reading::refusals::WORDS_AFTER_CONCLUSION;
+use row_set;
 use steps;
 use steps::Step;
 use words;
@@ -73,7 +73,7 @@ fn is_held(task: Task, step: Step) -> bool
         return true;
     }
     match step {
-        Step::Inference(r, _) => amend::is_changed(task.changed, r),
+        Step::Inference(r, _) => row_set::is_changed(task.changed, r),
         Step::Deduction(_, _, _) => false,
         Step::NoAssignment(_) => false,
         Step::NeverBelow(_, _, _) => false,
