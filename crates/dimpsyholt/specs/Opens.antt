@@ -17,9 +17,10 @@ use Rattle.meaning.specs.Proved.Faults.{fault-number}
 use Rattle.checker.specs.Written.{Gives, Earned, Written, WrittenAgain, RefusedAfter, ConcludedAfter}
 use Rattle.checker.specs.WrittenSo.{conclusionOf as concluded}
 use Rattle.checker.specs.Demands as demands
-use Rattle.dimpsyholt.specs.Fields.{fieldsOf, CheckTold, RecheckTold}
-use Rattle.dimpsyholt.specs.Only.{conclusionOf, meant, read-back}
-use Rattle.dimpsyholt.specs.declared.DimpsyholtAnswer.{DimpsyholtAnswer}
+use Rattle.answer.specs.Numbers.{fieldsOf}
+use Rattle.answer.specs.Meant.{conclusionOf, meant, read-back}
+use Rattle.answer.specs.declared.DimpsyholtAnswer.{DimpsyholtAnswer}
+use Rattle.dimpsyholt.specs.Fields.{CheckTold, RecheckTold}
 
 -- ---- from the numbers to the answer that they mean
 

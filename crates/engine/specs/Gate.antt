@@ -18,11 +18,12 @@ use Rattle.checker.specs.Written.{Earned, Judges, PassedAt, ConcludedAfter, Wri
 use Rattle.checker.specs.Demands.{every, GoodTable}
 use Rattle.checker.specs.Demands as demands
 use Rattle.dimpsyholt.specs.Fields.{CheckTold, RecheckTold}
-use Rattle.dimpsyholt.specs.Only.{conclusionOf, meant}
+use Rattle.answer.specs.Meant.{conclusionOf, meant}
 use Rattle.dimpsyholt.specs.Opens as promised
-use Rattle.dimpsyholt.specs.declared.DimpsyholtAnswer.{DimpsyholtAnswer}
-use Rattle.engine.specs.declared.Start.{Start}
-use Rattle.engine.specs.declared.Start.the-variants as start
+use Rattle.answer.specs.declared.DimpsyholtAnswer.{DimpsyholtAnswer}
+use Rattle.gate.specs.Looks.{Opens, OpensAgain, Early, PlaceOf}
+use Rattle.gate.specs.declared.Start.{Start}
+use Rattle.gate.specs.declared.Start.the-variants as start
 
 -- ---- what the gate may open on
 
@@ -63,21 +64,6 @@ pub record BeginsAgain (old new log : List ℤ) (k p : ℕ) : Type 0 where
 abbrev pub BeginsThereAgain : List ℤ → List ℤ → List ℤ → ℕ → Start → Type 0
 BeginsThereAgain old new log k (start.At p) = BeginsAgain old new log k p
 BeginsThereAgain old new log k start.Unknown = Unit {0}
-
--- ---- what the engine looks at
-
-abbrev pub Opens : DimpsyholtAnswer → Type 0
-Opens a = (a .kind ≡ 1) × (a .conclusion ≡ 3)
-
-abbrev pub OpensAgain : DimpsyholtAnswer → DimpsyholtAnswer → Type 0
-OpensAgain was again = (was .kind ≡ 1) × (again .kind ≡ 0 → ⊥) × (again .conclusion ≡ 3)
-
-abbrev pub Early : DimpsyholtAnswer → Type 0
-Early a = (a .kind ≡ 0) × (a .number ≤ 7)
-
-abbrev pub PlaceOf : DimpsyholtAnswer → ℕ → List ℕ → Start → Type 0
-PlaceOf a k places (start.At p) = (a .kind ≡ 0) × (8 ≤ a .number) × (k < a .step) × (p ≡ getD places k 0)
-PlaceOf a k places start.Unknown = Unit {0}
 
 -- conclusion 3 is "no assignment"
 nothing-concluded : (a : DimpsyholtAnswer) → a .conclusion ≡ 3 → conclusionOf a ≡ says.nothing

@@ -1,7 +1,7 @@
 -- `dimpsyholt_check` meets its contract. Assumes nothing.
 use mathlib.Core.Path.{refl, _∙_}
 use borrow.Author.Needs.{needs}
-use Rattle.dimpsyholt.specs.Fields.{fields-same}
+use Rattle.answer.specs.Numbers.{fields-same}
 use Rattle.dimpsyholt.proofs.dimpsyholt_check.Statement.{statement}
 use Rattle.dimpsyholt.proofs.dimpsyholt_check.Tie as tie
 

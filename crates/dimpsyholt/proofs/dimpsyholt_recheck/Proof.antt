@@ -1,7 +1,7 @@
 -- `dimpsyholt_recheck` meets its contract. Assumes nothing.
 use mathlib.Core.Path.{_∙_}
 use borrow.Author.Needs.{needs}
-use Rattle.dimpsyholt.specs.Fields.{fields-same}
+use Rattle.answer.specs.Numbers.{fields-same}
 use Rattle.dimpsyholt.proofs.dimpsyholt_recheck.Statement.{statement}
 use Rattle.dimpsyholt.proofs.dimpsyholt_recheck.Tie as tie
 

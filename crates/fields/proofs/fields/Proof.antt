@@ -3,8 +3,8 @@ use mathlib.Core.Path.{subst}
 use borrow.Author.Needs.{needs}
 use Rattle.meaning.specs.Limits.{mostVariables}
 use Rattle.walking.specs.Told.{NamesIn}
-use Rattle.dimpsyholt.proofs.fields.Statement.{statement}
-use Rattle.dimpsyholt.proofs.fields.Tie as tie
+use Rattle.fields.proofs.fields.Statement.{statement}
+use Rattle.fields.proofs.fields.Tie as tie
 
 reached-requires : tie.Need-reached-requires
 reached-requires c κs = subst (NamesIn mostVariables) (c .before .answer2 .given .1) (c .before .before .before .pre)

@@ -1,8 +1,8 @@
 use mathlib.Core.Path.{refl}
 use borrow.Author.Tests.{eqb-true}
 use Rattle.words.specs.ListFacts.{clash}
-use Rattle.engine.proofs.opens_again.Statement.{statement}
-use Rattle.engine.proofs.opens_again.Tie as tie
+use Rattle.gate.proofs.opens_again.Statement.{statement}
+use Rattle.gate.proofs.opens_again.Tie as tie
 
 returns : tie.Need-returns
 returns c = λ e. clash e refl

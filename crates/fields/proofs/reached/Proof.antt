@@ -6,8 +6,8 @@ use Rattle.words.specs.Int.{fit}
 use borrow.Author.Needs.{needs}
 use Rattle.meaning.specs.Limits.{mostVariables}
 use Rattle.walking.specs.Told.{ConclusionIn}
-use Rattle.dimpsyholt.proofs.reached.Statement.{statement}
-use Rattle.dimpsyholt.proofs.reached.Tie as tie
+use Rattle.fields.proofs.reached.Statement.{statement}
+use Rattle.fields.proofs.reached.Tie as tie
 
 -- the variable that is named is one that there is
 cast-t8 : tie.Need-cast-t8

@@ -1,8 +1,8 @@
 use mathlib.Core.Path.{refl}
 use borrow.Author.Needs.{needs}
 use Rattle.words.specs.ListFacts.{clash}
-use Rattle.engine.proofs.is_early.Statement.{statement}
-use Rattle.engine.proofs.is_early.Tie as tie
+use Rattle.gate.proofs.is_early.Statement.{statement}
+use Rattle.gate.proofs.is_early.Tie as tie
 
 returns : tie.Need-returns
 returns c = λ e. clash e refl
