@@ -1,6 +1,5 @@
 pub mod Rows
 pub mod Back
-pub mod Fresh
 pub mod Starts
 pub mod Stages
 pub mod Only

@@ -1,5 +1,5 @@
 // Reading the bounds: a pair for each variable, of which the high one is not below the low one.
-use crate::table;
+use one_row::table;
 use reading::Past;
 use reading::limits::MOST_VALUE;
 use words;

@@ -1,11 +1,8 @@
 // Reading the model table: every word is held to its range, and the first word of each row is noted. How much it holds is asked where it was read well.
 mod bounds;
-mod cumulative;
-mod distinct;
-mod linear;
 mod rows;
-mod table;
 
+use one_row::table;
 use reading;
 use reading::Past;
 use reading::limits::MOST_ROWS;

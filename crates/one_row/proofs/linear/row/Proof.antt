@@ -4,8 +4,8 @@ use Rattle.meaning.specs.Read.{neg}
 use Rattle.reading.specs.Back.{word-back}
 use Rattle.reading.specs.Over.{stops, goes, gives, is-number, counts}
 use borrow.Author.Needs.{needs}
-use Rattle.model.proofs.linear.row.Statement.{statement}
-use Rattle.model.proofs.linear.row.Tie as tie
+use Rattle.one_row.proofs.linear.row.Statement.{statement}
+use Rattle.one_row.proofs.linear.row.Tie as tie
 
 returns-2 : tie.Need-returns-2
 returns-2 c =

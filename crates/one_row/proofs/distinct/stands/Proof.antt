@@ -10,9 +10,9 @@ use mir.Facts.{toZ-ofZ}
 use Rattle.words.specs.Int.{fit}
 use lib.Dec.{eqb}
 use Rattle.words.specs.Lists.{member}
-use Rattle.model.specs.Fresh.{seen, seen-hit, seen-miss}
-use Rattle.model.proofs.distinct.stands.Statement.{statement}
-use Rattle.model.proofs.distinct.stands.Tie as tie
+use Rattle.one_row.specs.Fresh.{seen, seen-hit, seen-miss}
+use Rattle.one_row.proofs.distinct.stands.Statement.{statement}
+use Rattle.one_row.proofs.distinct.stands.Tie as tie
 
 abbrev Inv-loop : tie.InvT-loop
 Inv-loop s from upto y k₀ k = (from ≤ k) × (k ≤ upto) × (member eqb y (seen s from (upto - from)) ≡ member eqb y (seen s from (k - from)))

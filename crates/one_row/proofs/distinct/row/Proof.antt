@@ -1,8 +1,8 @@
 use Rattle.meaning.specs.Limits.{mostParts}
 use Rattle.reading.specs.Over.{stops, gives, is-number, counts}
 use borrow.Author.Needs.{needs}
-use Rattle.model.proofs.distinct.row.Statement.{statement}
-use Rattle.model.proofs.distinct.row.Tie as tie
+use Rattle.one_row.proofs.distinct.row.Statement.{statement}
+use Rattle.one_row.proofs.distinct.row.Tie as tie
 
 pub row-spec : {M : Type 1} → statement M
 row-spec =

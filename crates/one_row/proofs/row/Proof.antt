@@ -1,9 +1,9 @@
 use native.Mathlib.Omega.{arith}
 use Rattle.reading.specs.Over.{stops, ranged, is-number, counts}
-use Rattle.model.specs.Fresh.{kinds-alike}
+use Rattle.one_row.specs.Fresh.{kinds-alike}
 use borrow.Author.Needs.{needs}
-use Rattle.model.proofs.rows.row.Statement.{statement}
-use Rattle.model.proofs.rows.row.Tie as tie
+use Rattle.one_row.proofs.row.Statement.{statement}
+use Rattle.one_row.proofs.row.Tie as tie
 
 returns-4 : tie.Need-returns-4
 returns-4 c =

@@ -4,8 +4,8 @@ use Rattle.meaning.specs.Read.{neg}
 use Rattle.reading.specs.Back.{word-back}
 use Rattle.reading.specs.Over.{stops, goes, gives}
 use borrow.Author.Needs.{needs}
-use Rattle.model.proofs.linear.term.Statement.{statement}
-use Rattle.model.proofs.linear.term.Tie as tie
+use Rattle.one_row.proofs.linear.term.Statement.{statement}
+use Rattle.one_row.proofs.linear.term.Tie as tie
 
 pub term-spec : {M : Type 1} → statement M
 term-spec =

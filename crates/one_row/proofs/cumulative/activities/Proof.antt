@@ -3,8 +3,8 @@ use denote.Ref.{now}
 use Rattle.meaning.specs.Model.{activity}
 use Rattle.reading.specs.Over.{Turned, first-turn, turn-stops, turn-more, turns-end}
 use borrow.Author.Needs.{needs}
-use Rattle.model.proofs.cumulative.activities.Statement.{statement}
-use Rattle.model.proofs.cumulative.activities.Tie as tie
+use Rattle.one_row.proofs.cumulative.activities.Statement.{statement}
+use Rattle.one_row.proofs.cumulative.activities.Tie as tie
 
 pub activities-spec : {M : Type 1} → statement M
 activities-spec =

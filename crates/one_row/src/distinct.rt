@@ -14,7 +14,7 @@ ghost use lib.Dec.{eqb};
 ghost use Rattle.words.specs.Lists.{member};
 ghost use Rattle.meaning.specs.Model.{distinct, rowOfKind};
 ghost use Rattle.reading.specs.Told.{Skims};
-ghost use Rattle.model.specs.Fresh.{seen, NonNeg};
+ghost use Rattle.one_row.specs.Fresh.{seen, NonNeg};
 
 // Does x stand among the words from..upto?
 fn stands(s: &[i32], from: usize, upto: usize, x: VarNo) -> bool

@@ -1,7 +1,7 @@
 use mir.Facts.{toZ-ofZ}
 use borrow.Author.Needs.{needs}
-use Rattle.model.proofs.table.integer.Statement.{statement}
-use Rattle.model.proofs.table.integer.Tie as tie
+use Rattle.one_row.proofs.table.integer.Statement.{statement}
+use Rattle.one_row.proofs.table.integer.Tie as tie
 
 returns : tie.Need-returns
 returns c =

@@ -2,8 +2,8 @@ use Rattle.meaning.specs.Limits.{mostParts, mostUsage}
 use Rattle.reading.specs.Back.{count-back}
 use Rattle.reading.specs.Over.{stops, goes, gives, is-number, counts}
 use borrow.Author.Needs.{needs}
-use Rattle.model.proofs.cumulative.row.Statement.{statement}
-use Rattle.model.proofs.cumulative.row.Tie as tie
+use Rattle.one_row.proofs.cumulative.row.Statement.{statement}
+use Rattle.one_row.proofs.cumulative.row.Tie as tie
 
 pub row-spec : {M : Type 1} → statement M
 row-spec =

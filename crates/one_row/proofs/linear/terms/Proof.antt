@@ -3,8 +3,8 @@ use denote.Ref.{now}
 use Rattle.meaning.specs.Model.{term}
 use Rattle.reading.specs.Over.{Turned, first-turn, turn-stops, turn-more, turns-end}
 use borrow.Author.Needs.{needs}
-use Rattle.model.proofs.linear.terms.Statement.{statement}
-use Rattle.model.proofs.linear.terms.Tie as tie
+use Rattle.one_row.proofs.linear.terms.Statement.{statement}
+use Rattle.one_row.proofs.linear.terms.Tie as tie
 
 pub terms-spec : {M : Type 1} → statement M
 terms-spec =

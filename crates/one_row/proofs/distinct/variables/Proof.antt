@@ -5,10 +5,10 @@ use denote.Ref.{now}
 use Rattle.reading.specs.At.{Names}
 use Rattle.reading.specs.Back.{below-back}
 use Rattle.reading.specs.Over.{found}
-use Rattle.model.specs.Fresh.{Fresh, first-fresh, fresh-stops, fresh-twice, fresh-more, fresh-ends}
+use Rattle.one_row.specs.Fresh.{Fresh, first-fresh, fresh-stops, fresh-twice, fresh-more, fresh-ends}
 use borrow.Author.Needs.{needs}
-use Rattle.model.proofs.distinct.variables.Statement.{statement}
-use Rattle.model.proofs.distinct.variables.Tie as tie
+use Rattle.one_row.proofs.distinct.variables.Statement.{statement}
+use Rattle.one_row.proofs.distinct.variables.Tie as tie
 
 abbrev Inv-loop : tie.InvT-loop
 Inv-loop s from n v at₀ i₀ at i = Fresh v s from n at i

@@ -2,8 +2,8 @@ use Rattle.meaning.specs.Limits.{mostDuration}
 use Rattle.reading.specs.Back.{below-back, count-back}
 use Rattle.reading.specs.Over.{stops, goes, gives}
 use borrow.Author.Needs.{needs}
-use Rattle.model.proofs.cumulative.activity.Statement.{statement}
-use Rattle.model.proofs.cumulative.activity.Tie as tie
+use Rattle.one_row.proofs.cumulative.activity.Statement.{statement}
+use Rattle.one_row.proofs.cumulative.activity.Tie as tie
 
 returns-2 : tie.Need-returns-2
 returns-2 c =
