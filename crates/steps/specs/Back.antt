@@ -1,18 +1,15 @@
 -- The log's parts read back from a position: atoms, facts and steps, and what is known of their words.
 use Prim.Native.Nat.{ℕ, zero, suc, _+_, _*_, _≤_}
-use mathlib.Core.Path.{_≡_, refl, sym, _∙_}
-use mathlib.Core.List.{List, [], _∷_}
+use mathlib.Core.Path.{_≡_, refl}
+use mathlib.Core.List.{List}
 use mathlib.Core.Option.{Option, none, some}
 use native.Mathlib.Omega.{arith}
 use lib.IntN.{ℤ, pos}
-use lib.ListN.{length, drop}
+use lib.ListN.{length}
 use Rattle.meaning.specs.Limits.{mostValue, mostPremises, mostHints}
-use Rattle.meaning.specs.Read.{neg, times}
+use Rattle.meaning.specs.Read.{neg}
 use Rattle.meaning.specs.Log.{Atom, Step, atom, consequentOf, fact, stepOfKind, step}
 use Rattle.reading.specs.At.{At, intAt, natAt, eachAt, Names, Between, Each}
-use Rattle.reading.specs.Reading.{skim-give}
-use Rattle.reading.specs.Told.{Skims}
-use Rattle.reading.specs.declared.Past.{Past}
 use Rattle.reading.specs.Back.{Known, Back, Ranged, said-as, one, word-back, count-back, below-back, give-back, refuse-back, bind-back, times-back, ranged-size, between-orders}
 use Rattle.steps.specs.Facts.{atomAt, thenAt, premisesEnd, factAt, factNext, factStart, AtomIn, FactFrom}
 use Rattle.steps.specs.Told.{stepOf, placedKind, placed}
@@ -43,12 +40,6 @@ ThenIn v (suc q) s p = AtomIn v s p
 pub then-back : (v q : ℕ) → Back (consequentOf v q) (thenAt q) (thenNext q) (ThenIn v q)
 then-back v zero = give-back {A = Option Atom} none
 then-back v (suc q) = said-as (bind-back (atom-back v) (λ a. give-back (some a))) (λ s p h. refl) (λ s p h. refl) (λ s p h. h .0)
-
--- none or one in turn
-pub then-turns : (v q : ℕ) {s : List ℤ} {at : ℕ} {p : Past} → q ≤ 1 → Skims (times q (atom v)) s at p → Skims (consequentOf v q) s at p
-then-turns v zero l h = record { told = h .told }
-then-turns v (suc zero) {s} {at} l h = record { told = h .told ∙ skim-give (atom v at (drop at s)) (λ a. a ∷ []) ∙ sym (skim-give (atom v at (drop at s)) some) }
-then-turns v (suc (suc q)) l h = absurd (omega arith)
 
 then-next : (q p : ℕ) (s : List ℤ) → q ≤ 1 → thenNext q s p ≡ p + q * 3
 then-next zero p s h = omega arith
@@ -83,14 +74,6 @@ fact-back v =
     (λ s p h. refl)
     (λ s p h. then-next (natAt s (premisesEnd s p)) (premisesEnd s p + 1) s (h .1 .1 .0 .upto))
     (λ s p h. fact-from v s p (h .0) (h .1 .0) (h .1 .1 .0) (h .1 .1 .1 .0))
-
--- ---- the last of the four kinds
-pub last-kind : (v c k n : ℕ) {s : List ℤ} {at : ℕ} {p : Past} → 1 ≤ n → (n ≡ 1 → ⊥) → (n ≡ 2 → ⊥) → (n ≡ 3 → ⊥) → Skims (stepOfKind v 0 k 4) s at p → Skims (stepOfKind v c k n) s at p
-last-kind v c k zero l p q r h = absurd (omega arith)
-last-kind v c k (suc zero) l p q r h = absurd (p refl)
-last-kind v c k (suc (suc zero)) l p q r h = absurd (q refl)
-last-kind v c k (suc (suc (suc zero))) l p q r h = absurd (r refl)
-last-kind v c k (suc (suc (suc (suc n)))) l p q r h = record { told = h .told }
 
 -- ---- a step: its kind and what comes after it
 abbrev pub kindNext : ℕ → At ℕ

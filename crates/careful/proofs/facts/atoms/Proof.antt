@@ -3,8 +3,8 @@ use denote.Ref.{now}
 use Rattle.meaning.specs.Log.{atom}
 use Rattle.reading.specs.Over.{Turned, first-turn, turn-stops, turn-more, turns-end}
 use borrow.Author.Needs.{needs}
-use Rattle.steps.proofs.facts.atoms.Statement.{statement}
-use Rattle.steps.proofs.facts.atoms.Tie as tie
+use Rattle.careful.proofs.facts.atoms.Statement.{statement}
+use Rattle.careful.proofs.facts.atoms.Tie as tie
 
 pub atoms-spec : {M : Type 1} → statement M
 atoms-spec =

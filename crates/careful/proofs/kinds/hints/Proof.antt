@@ -3,8 +3,8 @@ use denote.Ref.{now}
 use Rattle.meaning.specs.Log.{numberBelow}
 use Rattle.reading.specs.Over.{Turned, first-turn, turn-stops, turn-more, turns-end}
 use borrow.Author.Needs.{needs}
-use Rattle.steps.proofs.kinds.hints.Statement.{statement}
-use Rattle.steps.proofs.kinds.hints.Tie as tie
+use Rattle.careful.proofs.kinds.hints.Statement.{statement}
+use Rattle.careful.proofs.kinds.hints.Tie as tie
 
 pub hints-spec : {M : Type 1} → statement M
 hints-spec =

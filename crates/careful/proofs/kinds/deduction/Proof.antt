@@ -1,9 +1,8 @@
 use Rattle.meaning.specs.Limits.{mostHints}
-use Rattle.reading.specs.Over.{stops, goes, gives, is-number, counts}
-use Rattle.steps.specs.Back.{fact-back}
+use Rattle.reading.specs.Over.{stops, goes-any, gives, is-number, counts}
 use borrow.Author.Needs.{needs}
-use Rattle.steps.proofs.kinds.deduction.Statement.{statement}
-use Rattle.steps.proofs.kinds.deduction.Tie as tie
+use Rattle.careful.proofs.kinds.deduction.Statement.{statement}
+use Rattle.careful.proofs.kinds.deduction.Tie as tie
 
 returns : tie.Need-returns
 returns c = stops (c .before .before .fact .ensures) _ (c .enum-told .given .1)
@@ -11,7 +10,7 @@ returns c = stops (c .before .before .fact .ensures) _ (c .enum-told .given .1)
 returns-2 : tie.Need-returns-2
 returns-2 c =
     let f = c .before .before .before .before .before .before in
-    goes (f .fact .ensures) (fact-back (f .before .args .v)) (c .before .before .before .before .f .given .1) _ (stops (c .before .before .number .ensures) _ (c .enum-told2 .given .1))
+    goes-any (f .fact .ensures) (c .before .before .before .before .f .given .1) _ (λ f. stops (c .before .before .number .ensures) _ (c .enum-told2 .given .1))
 
 number-at-requires : tie.Need-number-at-requires
 number-at-requires c κs = is-number 11 12 0 mostHints (c .before .before .before .number .ensures) (c .before .h .given .1)
@@ -22,8 +21,8 @@ returns-3 c =
     let h = n .before in
     let k = h .before .before .before .before in
     let f = k .before .before .before in
-    goes (f .fact .ensures) (fact-back (f .before .args .v)) (k .before .f .given .1) _
-    (counts 11 12 0 mostHints (h .before .before .before .number .ensures) (h .before .h .given .1) (n .number-at .ensures) _ (gives (c .hints .ensures) _))
+    goes-any (f .fact .ensures) (k .before .f .given .1) _
+    (λ f. counts 11 12 0 mostHints (h .before .before .before .number .ensures) (h .before .h .given .1) (n .number-at .ensures) _ (gives (c .hints .ensures) _))
 
 pub deduction-spec : {M : Type 1} → statement M
 deduction-spec =

@@ -1,8 +1,8 @@
 use Rattle.reading.specs.Over.{gives}
-use Rattle.steps.specs.Back.{last-kind}
+use Rattle.careful.specs.Same.{last-kind}
 use borrow.Author.Needs.{needs}
-use Rattle.steps.proofs.kinds.of_kind.Statement.{statement}
-use Rattle.steps.proofs.kinds.of_kind.Tie as tie
+use Rattle.careful.proofs.kinds.of_kind.Statement.{statement}
+use Rattle.careful.proofs.kinds.of_kind.Tie as tie
 
 returns-4 : tie.Need-returns-4
 returns-4 c =

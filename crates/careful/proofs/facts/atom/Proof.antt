@@ -1,8 +1,8 @@
 use Rattle.reading.specs.Back.{below-back, count-back}
 use Rattle.reading.specs.Over.{stops, goes, gives}
 use borrow.Author.Needs.{needs}
-use Rattle.steps.proofs.facts.atom.Statement.{statement}
-use Rattle.steps.proofs.facts.atom.Tie as tie
+use Rattle.careful.proofs.facts.atom.Statement.{statement}
+use Rattle.careful.proofs.facts.atom.Tie as tie
 
 returns : tie.Need-returns
 returns c = stops (c .before .before .below .ensures) _ (c .enum-told .given .1)

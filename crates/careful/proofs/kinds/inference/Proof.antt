@@ -1,8 +1,8 @@
 use Rattle.reading.specs.Back.{below-back}
 use Rattle.reading.specs.Over.{stops, goes, gives}
 use borrow.Author.Needs.{needs}
-use Rattle.steps.proofs.kinds.inference.Statement.{statement}
-use Rattle.steps.proofs.kinds.inference.Tie as tie
+use Rattle.careful.proofs.kinds.inference.Statement.{statement}
+use Rattle.careful.proofs.kinds.inference.Tie as tie
 
 returns : tie.Need-returns
 returns c = stops (c .before .before .below .ensures) _ (c .enum-told .given .1)

@@ -4,8 +4,8 @@ use lib.IntN.{pos}
 use Rattle.reading.specs.Back.{below-back, word-back}
 use Rattle.reading.specs.Over.{stops, goes, gives}
 use borrow.Author.Needs.{needs}
-use Rattle.steps.proofs.kinds.never_below.Statement.{statement}
-use Rattle.steps.proofs.kinds.never_below.Tie as tie
+use Rattle.careful.proofs.kinds.never_below.Statement.{statement}
+use Rattle.careful.proofs.kinds.never_below.Tie as tie
 
 returns : tie.Need-returns
 returns c = stops (c .before .before .below .ensures) _ (c .enum-told .given .1)

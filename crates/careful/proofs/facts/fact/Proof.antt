@@ -1,11 +1,10 @@
 use native.Mathlib.Omega.{arith}
 use Rattle.meaning.specs.Limits.{mostPremises}
-use Rattle.reading.specs.Back.{times-back}
-use Rattle.reading.specs.Over.{stops, goes, gives, ranged, is-number, counts}
-use Rattle.steps.specs.Back.{atom-back, then-turns}
+use Rattle.reading.specs.Over.{stops, goes-any, gives, ranged, is-number, counts}
+use Rattle.careful.specs.Same.{then-turns}
 use borrow.Author.Needs.{needs}
-use Rattle.steps.proofs.facts.fact.Statement.{statement}
-use Rattle.steps.proofs.facts.fact.Tie as tie
+use Rattle.careful.proofs.facts.fact.Statement.{statement}
+use Rattle.careful.proofs.facts.fact.Tie as tie
 
 returns : tie.Need-returns
 returns c = stops (c .before .before .number .ensures) _ (c .enum-told .given .1)
@@ -25,9 +24,8 @@ returns-3 c =
     let a = p .before .before .before in
     let n = a .before in
     let k = n .before in
-    let v = k .before .before .before .before .args .v in
     counts 11 12 0 mostPremises (k .before .before .before .number .ensures) (k .before .c .given .1) (n .number-at .ensures) _
-    (goes (a .atoms .ensures) (times-back (atom-back v) (n .number-at .result)) (p .before .p .given .1) _ (stops (c .before .before .number2 .ensures) _ (c .enum-told3 .given .1)))
+    (goes-any (a .atoms .ensures) (p .before .p .given .1) _ (λ ps. stops (c .before .before .number2 .ensures) _ (c .enum-told3 .given .1)))
 
 number-at-requires-2 : tie.Need-number-at-requires-2
 number-at-requires-2 c κs = is-number 11 12 0 1 (c .before .before .before .number2 .ensures) (c .before .d .given .1)
@@ -43,8 +41,7 @@ returns-4 c =
     let v = k .before .before .before .before .args .v in
     let b = ranged 11 12 0 1 (d .before .before .before .number2 .ensures) (d .before .d .given .1) in
     counts 11 12 0 mostPremises (k .before .before .before .number .ensures) (k .before .c .given .1) (n .number-at .ensures) _
-    (goes (a .atoms .ensures) (times-back (atom-back v) (n .number-at .result)) (p .before .p .given .1) _
-    (counts 11 12 0 1 (d .before .before .before .number2 .ensures) (d .before .d .given .1) (m .number-at2 .ensures) _ (gives (then-turns v (m .number-at2 .result) (omega (arith, m .number-at2 .ensures, b .upto)) (c .atoms2 .ensures)) _)))
+    (goes-any (a .atoms .ensures) (p .before .p .given .1) _ (λ ps. counts 11 12 0 1 (d .before .before .before .number2 .ensures) (d .before .d .given .1) (m .number-at2 .ensures) _ (gives (then-turns v (m .number-at2 .result) (omega (arith, m .number-at2 .ensures, b .upto)) (c .atoms2 .ensures)) _)))
 
 pub fact-spec : {M : Type 1} → statement M
 fact-spec =

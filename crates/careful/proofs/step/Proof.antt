@@ -1,7 +1,7 @@
 use Rattle.reading.specs.Over.{stops, ranged, is-number, counts}
 use borrow.Author.Needs.{needs}
-use Rattle.steps.proofs.careful.Statement.{statement}
-use Rattle.steps.proofs.careful.Tie as tie
+use Rattle.careful.proofs.step.Statement.{statement}
+use Rattle.careful.proofs.step.Tie as tie
 
 returns : tie.Need-returns
 returns c = stops (c .before .before .number .ensures) _ (c .enum-told .given .1)
@@ -22,8 +22,8 @@ returns-2 c =
     let k = n .before in
     counts 11 12 1 4 (k .before .before .before .number .ensures) (k .before .p .given .1) (n .number-at .ensures) _ (c .of-kind .ensures)
 
-pub careful-spec : {M : Type 1} → statement M
-careful-spec =
+pub step-spec : {M : Type 1} → statement M
+step-spec =
     tie.close
     (tie.spec
     (λ c κs. search needs)
