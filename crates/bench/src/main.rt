@@ -1,6 +1,5 @@
 // Cases of a text, each a model, a log and perhaps an old model, and what the C interface answers: file stdin says how they are written.
 mod cases;
-mod show;
 
 fn main() {
     let mut text = io::large_buffer();

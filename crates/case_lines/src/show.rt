@@ -1,5 +1,5 @@
 // An answer as the lines of the text have it.
-use dimpsyholt::DimpsyholtAnswer;
+use answer::DimpsyholtAnswer;
 
 fn text(s: &[u8]) {
     io::write_all(1, s);

@@ -3,10 +3,10 @@ use mathlib.Core.Path.{_≡_}
 use native.Mathlib.Omega.{arith}
 use lib.ListN.{length, length-set}
 use borrow.Author.Needs.{needs}
-use Rattle.bench.proofs.show.written.Statement.{statement}
-use Rattle.bench.proofs.show.written.Tie as tie
-use Rattle.bench.proofs.show.number.Reads as number-reads
-use Rattle.bench.proofs.show.text.Reads as text-reads
+use Rattle.case_lines.proofs.show.written.Statement.{statement}
+use Rattle.case_lines.proofs.show.written.Tie as tie
+use Rattle.case_lines.proofs.show.number.Reads as number-reads
+use Rattle.case_lines.proofs.show.text.Reads as text-reads
 
 abbrev Inv-loop : tie.InvT-loop
 Inv-loop places k₀ t5 k = k ≤ length places

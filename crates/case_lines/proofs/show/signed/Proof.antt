@@ -7,8 +7,8 @@ use mir.Val.{SFits, toZ, ofZ}
 use mir.Facts.{toZ-ofZ}
 use Rattle.words.specs.Int.{zz, diff, neg, one-side}
 use borrow.Author.Needs.{needs}
-use Rattle.bench.proofs.show.signed.Statement.{statement}
-use Rattle.bench.proofs.show.signed.Tie as tie
+use Rattle.case_lines.proofs.show.signed.Statement.{statement}
+use Rattle.case_lines.proofs.show.signed.Tie as tie
 
 -- a word below zero that is not the least has a negative that is a word
 below : (c : tie.After-text2) → let v = toZ w32 (ofZ w32 (c .before .before .before .before .args .v)) in SFits w32 (pos 0 -ℤ v) × (pos 0 ≤ℤ (pos 0 -ℤ v))

@@ -3,8 +3,8 @@ use mathlib.Core.Path.{_≡_}
 use native.Mathlib.Omega.{arith}
 use lib.ListN.{length, length-set}
 use borrow.Author.Needs.{needs}
-use Rattle.bench.proofs.cases.lend.Statement.{statement}
-use Rattle.bench.proofs.cases.lend.Tie as tie
+use Rattle.case_lines.proofs.cases.lend.Statement.{statement}
+use Rattle.case_lines.proofs.cases.lend.Tie as tie
 
 abbrev Inv-loop : tie.InvT-loop
 Inv-loop places₀ k₀ places k = length places ≡ length places₀
