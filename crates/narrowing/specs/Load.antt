@@ -14,7 +14,7 @@ use lib.Seq.{getD-set-same, getD-set-other}
 use Rattle.words.specs.Int.{zz}
 use Rattle.words.specs.ListFacts.{tested}
 use Rattle.domain.specs.Sets.{fromTo, without-none}
-use Rattle.domain.specs.Box.{variables, holes, holePlace, lowOf, highOf, Formed, isHole, values, values-known}
+use Rattle.domain.specs.Box.{variables, holePlace, lowOf, highOf, Formed, isHole, values, values-known}
 use Rattle.domain.specs.Box.Walk.{no-holes}
 use Rattle.narrowing.specs.Narrow.{Room}
 

@@ -18,7 +18,7 @@ use Rattle.words.specs.Lists.{keep, least, largest}
 use Rattle.words.specs.ListFacts.{tested, clash, not-not, same-test, and-true, and-both, or-none, le-of, of-le, Rising, keep-rising, keep-in, in-keep, least-in, least-below, largest-in, largest-above}
 use Rattle.domain.specs.Sets.{rising-same, keep-agree, keep-every, without, without-rising, in-without, without-in, endOf, no-member, firstOf, lastOf, firstFrom, lastTo, onlyOf, orNone, but, first-kept, last-kept, first-from-in, last-to-in, only-last}
 use Rattle.domain.specs.Sides.{fromOn}
-use Rattle.domain.specs.Box.{variables, holes, lowPlace, highPlace, holePlace, lowOf, highOf, Formed, Tight, hole, isHole, values, values-known, values-beyond, values-rising, is-left, left-is, byRelation, stands, by-other, each-relation}
+use Rattle.domain.specs.Box.{variables, holes, lowPlace, highPlace, holePlace, lowOf, highOf, Formed, Tight, isHole, values, values-known, values-beyond, values-rising, is-left, left-is, byRelation, stands, by-other, each-relation}
 use Rattle.domain.specs.Box.Walk.{hole-step}
 use Rattle.domain.specs.Box.Same.{hole-same, values-same}
 use Rattle.domain.specs.Box.Answers.{first-is, last-is, ends-first, ends-last}

@@ -11,15 +11,6 @@ use borrow.Author.Needs.{needs}
 use Rattle.domain.proofs.count.Statement.{statement}
 use Rattle.domain.proofs.count.Tie as tie
 
-mul-w : tie.Need-mul-w
-mul-w c = search needs
-
-shared-slice-copy-out-w : tie.Need-shared-slice-copy-out-w
-shared-slice-copy-out-w c = search needs
-
-index-requires : tie.Need-index-requires
-index-requires c κs = search needs
-
 returns : tie.Need-returns
 returns c =
     let s = c .before .before in
@@ -28,4 +19,4 @@ returns c =
     (ap natAbs e, omega (arith, zz, fits-read f))
 
 pub count-spec : {M : Type 1} → statement M
-count-spec = tie.close (tie.spec mul-w shared-slice-copy-out-w index-requires returns)
+count-spec = tie.close (tie.spec (λ c. search needs) (λ c. search needs) (λ c κs. search needs) returns)

@@ -12,18 +12,6 @@ use Rattle.domain.specs.Box.Answers.{member-values}
 use Rattle.domain.proofs.has.Statement.{statement}
 use Rattle.domain.proofs.has.Tie as tie
 
-low-end-requires : tie.Need-low-end-requires
-low-end-requires c κs = search needs
-
-high-end-requires : tie.Need-high-end-requires
-high-end-requires c κs = search needs
-
-in-range-requires : tie.Need-in-range-requires
-in-range-requires c κs = search needs
-
-is-hole-requires : tie.Need-is-hole-requires
-is-hole-requires c κs = search needs
-
 -- the value lies between the ends, and is no hole
 split : (c : tie.After-in-range) →
     let s = c .before .before .before .args in
@@ -47,9 +35,9 @@ pub has-spec : {M : Type 1} → statement M
 has-spec =
     tie.close
     (tie.spec
-    low-end-requires
-    high-end-requires
-    in-range-requires
-    is-hole-requires
+    (λ c κs. search needs)
+    (λ c κs. search needs)
+    (λ c κs. search needs)
+    (λ c κs. search needs)
     returns
     returns-2)

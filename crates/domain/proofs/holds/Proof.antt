@@ -14,12 +14,6 @@ use borrow.Author.Needs.{needs}
 use Rattle.domain.proofs.holds.Statement.{statement}
 use Rattle.domain.proofs.holds.Tie as tie
 
-last-requires : tie.Need-last-requires
-last-requires c κs = search needs
-
-none-or-at-most-requires : tie.Need-none-or-at-most-requires
-none-or-at-most-requires c κs = search needs
-
 returns : tie.Need-returns
 returns c =
     let s = c .before .before .before in
@@ -27,30 +21,12 @@ returns c =
     let e = is-lit (pos 1) (s .fits .relation) (c .before .before .if1 .taken) tt in
     simp toZ-ofZ at (c .none-or-at-most .ensures) ∙ rw (c .before .last .ensures) (sym (holds-at-most (now (s .args .cells)) (s .args .x .0) (s .args .relation) (s .args .value) e))
 
-first-requires : tie.Need-first-requires
-first-requires c κs = search needs
-
-none-or-at-least-requires : tie.Need-none-or-at-least-requires
-none-or-at-least-requires c κs = search needs
-
 returns-2 : tie.Need-returns-2
 returns-2 c =
     let s = c .before .before .before .before in
     let f = s .fits .value in
     let e = is-lit (pos 2) (s .fits .relation) (c .before .before .if2 .taken) tt in
     simp toZ-ofZ at (c .none-or-at-least .ensures) ∙ rw (c .before .first .ensures) (sym (holds-at-least (now (s .args .cells)) (s .args .x .0) (s .args .relation) (s .args .value) e))
-
-first-requires-2 : tie.Need-first-requires-2
-first-requires-2 c κs = search needs
-
-last-requires-2 : tie.Need-last-requires-2
-last-requires-2 c κs = search needs
-
-none-or-same-requires : tie.Need-none-or-same-requires
-none-or-same-requires c κs = search needs
-
-none-or-same-requires-2 : tie.Need-none-or-same-requires-2
-none-or-same-requires-2 c κs = search needs
 
 -- both ends decide whether all are equal to the value
 by-ends : (c : tie.After-none-or-same) →
@@ -70,9 +46,6 @@ returns-3 c =
 returns-4 : tie.Need-returns-4
 returns-4 c = sym (by-ends (c .before) ∙ rw (c .if4 .left))
 
-has-requires : tie.Need-has-requires
-has-requires c κs = search needs
-
 returns-5 : tie.Need-returns-5
 returns-5 c =
     let s = c .before .before .before .before in
@@ -85,17 +58,17 @@ pub holds-spec : {M : Type 1} → statement M
 holds-spec =
     tie.close
     (tie.spec
-    last-requires
-    none-or-at-most-requires
+    (λ c κs. search needs)
+    (λ c κs. search needs)
     returns
-    first-requires
-    none-or-at-least-requires
+    (λ c κs. search needs)
+    (λ c κs. search needs)
     returns-2
-    first-requires-2
-    last-requires-2
-    none-or-same-requires
-    none-or-same-requires-2
+    (λ c κs. search needs)
+    (λ c κs. search needs)
+    (λ c κs. search needs)
+    (λ c κs. search needs)
     returns-3
     returns-4
-    has-requires
+    (λ c κs. search needs)
     returns-5)

@@ -8,14 +8,8 @@ use Rattle.domain.specs.Box.{values}
 use Rattle.domain.proofs.is_empty.Statement.{statement}
 use Rattle.domain.proofs.is_empty.Tie as tie
 
-first-requires : tie.Need-first-requires
-first-requires c κs = search needs
-
-is-none-requires : tie.Need-is-none-requires
-is-none-requires c κs = search needs
-
 returns : tie.Need-returns
 returns c = c .is-none .ensures ∙ ap isNone (c .before .first .ensures) ∙ end-none least (values (now (c .before .before .args .cells)) (c .before .before .args .x .0))
 
 pub is-empty-spec : {M : Type 1} → statement M
-is-empty-spec = tie.close (tie.spec first-requires is-none-requires returns)
+is-empty-spec = tie.close (tie.spec (λ c κs. search needs) (λ c κs. search needs) returns)

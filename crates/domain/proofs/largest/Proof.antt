@@ -11,12 +11,6 @@ use Rattle.domain.specs.Box.{values}
 use Rattle.domain.proofs.largest.Statement.{statement}
 use Rattle.domain.proofs.largest.Tie as tie
 
-last-requires : tie.Need-last-requires
-last-requires c κs = search needs
-
-or-zero-requires : tie.Need-or-zero-requires
-or-zero-requires c κs = search needs
-
 returns : tie.Need-returns
 returns c =
     let m = fit w32 (c .or-zero .result) (c .or-zero .ok) in
@@ -24,4 +18,4 @@ returns c =
     simp toZ-ofZ (c .or-zero .ensures ∙ ap orZero (c .before .last .ensures) ∙ end-value largest refl (values (now (s .cells)) (s .x .0)))
 
 pub largest-spec : {M : Type 1} → statement M
-largest-spec = tie.close (tie.spec last-requires or-zero-requires returns)
+largest-spec = tie.close (tie.spec (λ c κs. search needs) (λ c κs. search needs) returns)

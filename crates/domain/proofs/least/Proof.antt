@@ -11,12 +11,6 @@ use Rattle.domain.specs.Box.{values}
 use Rattle.domain.proofs.least.Statement.{statement}
 use Rattle.domain.proofs.least.Tie as tie
 
-first-requires : tie.Need-first-requires
-first-requires c κs = search needs
-
-or-zero-requires : tie.Need-or-zero-requires
-or-zero-requires c κs = search needs
-
 returns : tie.Need-returns
 returns c =
     let m = fit w32 (c .or-zero .result) (c .or-zero .ok) in
@@ -24,4 +18,4 @@ returns c =
     simp toZ-ofZ (c .or-zero .ensures ∙ ap orZero (c .before .first .ensures) ∙ end-value least refl (values (now (s .cells)) (s .x .0)))
 
 pub least-spec : {M : Type 1} → statement M
-least-spec = tie.close (tie.spec first-requires or-zero-requires returns)
+least-spec = tie.close (tie.spec (λ c κs. search needs) (λ c κs. search needs) returns)

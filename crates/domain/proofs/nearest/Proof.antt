@@ -1,11 +1,10 @@
 -- `nearest` meets its contract: the walk begins at the near end or at `from`, whichever is ahead.
 use mathlib.Core.Path.{_≡_, sym, _∙_}
-use native.Mathlib.Omega.{arith}
 use denote.Ref.{now}
 use lib.Signed.{_≤ℤ_}
 use mir.Syntax.{w32}
 use mir.Facts.{toZ-ofZ}
-use Rattle.words.specs.Int.{zz, fit}
+use Rattle.words.specs.Int.{fit}
 use Rattle.domain.specs.Sides.{further, precedes, does-precede, not-precedes, past-both}
 use Rattle.domain.specs.Box.{lowOf, highOf, edge}
 use Rattle.domain.specs.Box.Answers.{between-ends, walk-start, walk-found, start-none, start-same}

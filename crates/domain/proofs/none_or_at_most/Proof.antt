@@ -10,12 +10,6 @@ use borrow.Author.Needs.{needs}
 use Rattle.domain.proofs.none_or_at_most.Statement.{statement}
 use Rattle.domain.proofs.none_or_at_most.Tie as tie
 
-enum-known-n : tie.Need-enum-known-n
-enum-known-n c = search needs
-
-enum-told : tie.Need-enum-told
-enum-told c = search needs
-
 returns : tie.Need-returns
 returns c =
     let s = c .before .before .before in
@@ -23,8 +17,5 @@ returns c =
     let f = fit w32 (c .before .n .given .0 .0) (c .known-told .given .0 .1) in
     simp toZ-ofZ (sym (ap (λ m. noneOr (λ v. leZ v (s .args .value)) (toldNext m)) (c .before .n .given .1)))
 
-returns-2 : tie.Need-returns-2
-returns-2 c = search needs
-
 pub none-or-at-most-spec : {M : Type 1} → statement M
-none-or-at-most-spec = tie.close (tie.spec enum-known-n enum-told returns returns-2)
+none-or-at-most-spec = tie.close (tie.spec (λ c. search needs) (λ c. search needs) returns (λ c. search needs))

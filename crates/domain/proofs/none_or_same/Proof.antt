@@ -9,15 +9,6 @@ use borrow.Author.Needs.{needs}
 use Rattle.domain.proofs.none_or_same.Statement.{statement}
 use Rattle.domain.proofs.none_or_same.Tie as tie
 
-enum-known-n : tie.Need-enum-known-n
-enum-known-n c = search needs
-
-same-requires : tie.Need-same-requires
-same-requires c κs = search needs
-
-enum-told : tie.Need-enum-told
-enum-told c = search needs
-
 returns : tie.Need-returns
 returns c =
     let s = c .before .before .before .before in
@@ -25,8 +16,5 @@ returns c =
     let f = fit w32 (c .before .before .n .given .0 .0) (c .before .known-told .given .0 .1) in
     simp toZ-ofZ at (c .same .ensures) ∙ sym (ap (λ m. noneOr (λ v. eqZ v (s .args .value)) (toldNext m)) (c .before .before .n .given .1))
 
-returns-2 : tie.Need-returns-2
-returns-2 c = search needs
-
 pub none-or-same-spec : {M : Type 1} → statement M
-none-or-same-spec = tie.close (tie.spec enum-known-n same-requires enum-told returns returns-2)
+none-or-same-spec = tie.close (tie.spec (λ c. search needs) (λ c κs. search needs) (λ c. search needs) returns (λ c. search needs))

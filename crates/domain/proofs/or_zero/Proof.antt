@@ -9,12 +9,6 @@ use borrow.Author.Needs.{needs}
 use Rattle.domain.proofs.or_zero.Statement.{statement}
 use Rattle.domain.proofs.or_zero.Tie as tie
 
-enum-known-n : tie.Need-enum-known-n
-enum-known-n c = search needs
-
-enum-told : tie.Need-enum-told
-enum-told c = search needs
-
 returns : tie.Need-returns
 returns c =
     let f = fit w32 (c .before .n .given .0 .0) (c .known-told .given .0 .1) in
@@ -24,4 +18,4 @@ returns-2 : tie.Need-returns-2
 returns-2 c = sym (ap (λ m. orZero (toldNext m)) (c .enum-told .given .1))
 
 pub or-zero-spec : {M : Type 1} → statement M
-or-zero-spec = tie.close (tie.spec enum-known-n enum-told returns returns-2)
+or-zero-spec = tie.close (tie.spec (λ c. search needs) (λ c. search needs) returns returns-2)

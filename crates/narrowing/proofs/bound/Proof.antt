@@ -7,12 +7,6 @@ use borrow.Author.Needs.{needs}
 use Rattle.narrowing.proofs.bound.Statement.{statement}
 use Rattle.narrowing.proofs.bound.Tie as tie
 
-put-requires : tie.Need-put-requires
-put-requires c κs = search needs
-
-same-length : tie.Need-same-length
-same-length c = search needs
-
 returns : tie.Need-returns
 returns c =
     let p = c .before in
@@ -21,12 +15,6 @@ returns c =
     let g = s .fits .b in
     let t : leZ (s .args .a) (s .args .b) ≡ true = simp toZ-ofZ at (p .before .before .if1 .taken) in
     rw t (simp toZ-ofZ at (p .put .ensures))
-
-put-requires-2 : tie.Need-put-requires-2
-put-requires-2 c κs = search needs
-
-same-length-2 : tie.Need-same-length-2
-same-length-2 c = search needs
 
 returns-2 : tie.Need-returns-2
 returns-2 c =
@@ -39,4 +27,4 @@ returns-2 c =
 
 pub bound-spec : {M : Type 1} → statement M
 bound-spec =
-    tie.close (tie.spec put-requires same-length returns put-requires-2 same-length-2 returns-2)
+    tie.close (tie.spec (λ c κs. search needs) (λ c. search needs) returns (λ c κs. search needs) (λ c. search needs) returns-2)

@@ -20,35 +20,8 @@ Inv-loop words at count cells₀ end k₀ cells k = (k ≤ 2 * count) × (length
 abbrev μ-loop : tie.MeasureT-loop
 μ-loop words at count cells₀ end k₀ cells k = end - k
 
-mul-end : tie.Need-mul-end Inv-loop μ-loop
-mul-end c = search needs
-
 loop-holds : tie.Need-loop-holds Inv-loop μ-loop
 loop-holds c = (omega arith, refl, sym (copied-none _ _ _))
-
-add-w : tie.Need-add-w Inv-loop μ-loop
-add-w c = search needs
-
-mul-w : tie.Need-mul-w Inv-loop μ-loop
-mul-w c = search needs
-
-shared-slice-copy-out-w : tie.Need-shared-slice-copy-out-w Inv-loop μ-loop
-shared-slice-copy-out-w c = search needs
-
-add-w-2 : tie.Need-add-w-2 Inv-loop μ-loop
-add-w-2 c = search needs
-
-mul-w-2 : tie.Need-mul-w-2 Inv-loop μ-loop
-mul-w-2 c = search needs
-
-slice-set-from-w : tie.Need-slice-set-from-w Inv-loop μ-loop
-slice-set-from-w c = search needs
-
-add-k : tie.Need-add-k Inv-loop μ-loop
-add-k c = search needs
-
-loop-less : tie.Need-loop-less Inv-loop μ-loop
-loop-less c = search needs
 
 loop-again : tie.Need-loop-again Inv-loop μ-loop
 loop-again c =
@@ -58,17 +31,8 @@ loop-again c =
     let f = fit w32 (getD (now (s .words)) (s .at + k) (pos 0)) (c .w .given) in
     (omega arith, simp length-set (l .loop .inv .1), simp toZ-ofZ (rw (l .loop .inv .2) (sym (copied-more (now (s .words)) (s .at) (now (s .cells)) k))))
 
-cast-cells : tie.Need-cast-cells Inv-loop μ-loop
-cast-cells c = search needs
-
-slice-set-from-cells : tie.Need-slice-set-from-cells Inv-loop μ-loop
-slice-set-from-cells c = search needs
-
 slice-set-of-cells : tie.Need-slice-set-of-cells Inv-loop μ-loop
 slice-set-of-cells c = simp length-set (omega arith)
-
-same-length : tie.Need-same-length Inv-loop μ-loop
-same-length c = search needs
 
 returns : tie.Need-returns Inv-loop μ-loop
 returns c =
@@ -85,19 +49,19 @@ load-spec =
     (tie.spec
     Inv-loop
     μ-loop
-    mul-end
+    (λ c. search needs)
     loop-holds
-    add-w
-    mul-w
-    shared-slice-copy-out-w
-    add-w-2
-    mul-w-2
-    slice-set-from-w
-    add-k
-    loop-less
+    (λ c. search needs)
+    (λ c. search needs)
+    (λ c. search needs)
+    (λ c. search needs)
+    (λ c. search needs)
+    (λ c. search needs)
+    (λ c. search needs)
+    (λ c. search needs)
     loop-again
-    cast-cells
-    slice-set-from-cells
+    (λ c. search needs)
+    (λ c. search needs)
     slice-set-of-cells
-    same-length
+    (λ c. search needs)
     returns)

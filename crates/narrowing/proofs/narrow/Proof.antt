@@ -9,12 +9,6 @@ use borrow.Author.Needs.{needs}
 use Rattle.narrowing.proofs.narrow.Statement.{statement}
 use Rattle.narrowing.proofs.narrow.Tie as tie
 
-squeeze-requires : tie.Need-squeeze-requires
-squeeze-requires c κs = search needs
-
-same-length : tie.Need-same-length
-same-length c = search needs
-
 returns : tie.Need-returns
 returns c =
     let b = c .before in
@@ -22,12 +16,6 @@ returns c =
     let s = t .before in
     let f = s .fits .value in
     simp toZ-ofZ at (b .squeeze .ensures) ∙ narrowed-at-most (now (s .args .cells)) (s .args .x .0) (s .args .relation) (s .args .value) (is-lit (pos 1) (s .fits .relation) (t .if1 .taken) tt)
-
-squeeze-requires-2 : tie.Need-squeeze-requires-2
-squeeze-requires-2 c κs = search needs
-
-same-length-2 : tie.Need-same-length-2
-same-length-2 c = search needs
 
 returns-2 : tie.Need-returns-2
 returns-2 c =
@@ -37,12 +25,6 @@ returns-2 c =
     let f = s .fits .value in
     simp toZ-ofZ at (b .squeeze2 .ensures) ∙ narrowed-at-least (now (s .args .cells)) (s .args .x .0) (s .args .relation) (s .args .value) (is-lit (pos 2) (s .fits .relation) (t .if2 .taken) tt)
 
-only-requires : tie.Need-only-requires
-only-requires c κs = search needs
-
-same-length-3 : tie.Need-same-length-3
-same-length-3 c = search needs
-
 returns-3 : tie.Need-returns-3
 returns-3 c =
     let b = c .before in
@@ -51,12 +33,6 @@ returns-3 c =
     let f = s .fits .value in
     let e = is-lit (pos 3) (s .fits .relation) (t .if3 .taken) tt in
     simp toZ-ofZ at (b .only .ensures) ∙ narrowed-equal (now (s .args .cells)) (s .args .x .0) (s .args .relation) (s .args .value) e
-
-exclude-requires : tie.Need-exclude-requires
-exclude-requires c κs = search needs
-
-same-length-4 : tie.Need-same-length-4
-same-length-4 c = search needs
 
 returns-4 : tie.Need-returns-4
 returns-4 c =
@@ -72,15 +48,15 @@ pub narrow-spec : {M : Type 1} → statement M
 narrow-spec =
     tie.close
     (tie.spec
-    squeeze-requires
-    same-length
+    (λ c κs. search needs)
+    (λ c. search needs)
     returns
-    squeeze-requires-2
-    same-length-2
+    (λ c κs. search needs)
+    (λ c. search needs)
     returns-2
-    only-requires
-    same-length-3
+    (λ c κs. search needs)
+    (λ c. search needs)
     returns-3
-    exclude-requires
-    same-length-4
+    (λ c κs. search needs)
+    (λ c. search needs)
     returns-4)

@@ -7,18 +7,6 @@ use borrow.Author.Needs.{needs}
 use Rattle.narrowing.proofs.narrow_not.Statement.{statement}
 use Rattle.narrowing.proofs.narrow_not.Tie as tie
 
-opposite-requires : tie.Need-opposite-requires
-opposite-requires c κs = search needs
-
-shifted-requires : tie.Need-shifted-requires
-shifted-requires c κs = search needs
-
-narrow-requires : tie.Need-narrow-requires
-narrow-requires c κs = search needs
-
-same-length : tie.Need-same-length
-same-length c = search needs
-
 returns : tie.Need-returns
 returns c =
     let n = c .before in
@@ -32,4 +20,4 @@ returns c =
 
 pub narrow-not-spec : {M : Type 1} → statement M
 narrow-not-spec =
-    tie.close (tie.spec opposite-requires shifted-requires narrow-requires same-length returns)
+    tie.close (tie.spec (λ c κs. search needs) (λ c κs. search needs) (λ c κs. search needs) (λ c. search needs) returns)

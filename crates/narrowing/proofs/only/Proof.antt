@@ -9,15 +9,6 @@ use borrow.Author.Needs.{needs}
 use Rattle.narrowing.proofs.only.Statement.{statement}
 use Rattle.narrowing.proofs.only.Tie as tie
 
-has-requires : tie.Need-has-requires
-has-requires c κs = search needs
-
-put-requires : tie.Need-put-requires
-put-requires c κs = search needs
-
-same-length : tie.Need-same-length
-same-length c = search needs
-
 returns : tie.Need-returns
 returns c =
     let p = c .before in
@@ -25,12 +16,6 @@ returns c =
     let s = t .before .before .before in
     let f = s .fits .value in
     simp toZ-ofZ at (p .put .ensures) ∙ ap (λ m. bounded (now (s .args .cells)) (s .args .x .0) m m) (sym (only-has (s .args .value) (values (now (s .args .cells)) (s .args .x .0)) (simp toZ-ofZ at (sym (t .before .has .ensures) ∙ t .if1 .taken))))
-
-put-requires-2 : tie.Need-put-requires-2
-put-requires-2 c κs = search needs
-
-same-length-2 : tie.Need-same-length-2
-same-length-2 c = search needs
 
 returns-2 : tie.Need-returns-2
 returns-2 c =
@@ -43,4 +28,4 @@ returns-2 c =
 pub only-spec : {M : Type 1} → statement M
 only-spec =
     tie.close
-    (tie.spec has-requires put-requires same-length returns put-requires-2 same-length-2 returns-2)
+    (tie.spec (λ c κs. search needs) (λ c κs. search needs) (λ c. search needs) returns (λ c κs. search needs) (λ c. search needs) returns-2)

@@ -10,30 +10,6 @@ use borrow.Author.Needs.{needs}
 use Rattle.pairs.proofs.is_at.Statement.{statement}
 use Rattle.pairs.proofs.is_at.Tie as tie
 
-mul-at : tie.Need-mul-at
-mul-at c = search needs
-
-add-at : tie.Need-add-at
-add-at c = search needs
-
-mul-a : tie.Need-mul-a
-mul-a c = search needs
-
-shared-slice-copy-out-a : tie.Need-shared-slice-copy-out-a
-shared-slice-copy-out-a c = search needs
-
-add-b : tie.Need-add-b
-add-b c = search needs
-
-mul-b : tie.Need-mul-b
-mul-b c = search needs
-
-shared-slice-copy-out-b : tie.Need-shared-slice-copy-out-b
-shared-slice-copy-out-b c = search needs
-
-same-requires : tie.Need-same-requires
-same-requires c κs = search needs
-
 returns : tie.Need-returns
 returns c =
     let s = c .before .before .before in
@@ -49,12 +25,12 @@ pub is-at-spec : {M : Type 1} → statement M
 is-at-spec =
     tie.close
     (tie.spec
-    mul-at
-    add-at
-    mul-a
-    shared-slice-copy-out-a
-    add-b
-    mul-b
-    shared-slice-copy-out-b
-    same-requires
+    (λ c. search needs)
+    (λ c. search needs)
+    (λ c. search needs)
+    (λ c. search needs)
+    (λ c. search needs)
+    (λ c. search needs)
+    (λ c. search needs)
+    (λ c κs. search needs)
     returns)

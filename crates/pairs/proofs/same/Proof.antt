@@ -5,9 +5,6 @@ use borrow.Author.Needs.{needs}
 use Rattle.pairs.proofs.same.Statement.{statement}
 use Rattle.pairs.proofs.same.Tie as tie
 
-same-requires : tie.Need-same-requires
-same-requires c κs = search needs
-
 returns : tie.Need-returns
 returns c =
     let s = c .before .before in
@@ -21,4 +18,4 @@ returns-2 : tie.Need-returns-2
 returns-2 c = let s = c .before .args in rw (eq32-f (s .a) (s .name) (c .if1 .left))
 
 pub same-spec : {M : Type 1} → statement M
-same-spec = tie.close (tie.spec same-requires returns returns-2)
+same-spec = tie.close (tie.spec (λ c κs. search needs) returns returns-2)

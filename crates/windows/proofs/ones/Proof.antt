@@ -5,14 +5,8 @@ use borrow.Author.Needs.{needs}
 use Rattle.windows.proofs.ones.Statement.{statement}
 use Rattle.windows.proofs.ones.Tie as tie
 
-sub-result : tie.Need-sub-result
-sub-result c = search needs
-
-shr-result : tie.Need-shr-result
-shr-result c = search needs
-
 returns : tie.Need-returns
 returns c = ones-high (c .args .n) (omega arith)
 
 pub ones-spec : {M : Type 1} → statement M
-ones-spec = tie.close (tie.spec sub-result shr-result returns)
+ones-spec = tie.close (tie.spec (λ c. search needs) (λ c. search needs) returns)

@@ -15,18 +15,12 @@ use borrow.Author.Needs.{needs}
 use Rattle.windows.proofs.range_mask.Statement.{statement}
 use Rattle.windows.proofs.range_mask.Tie as tie
 
-larger-requires : tie.Need-larger-requires
-larger-requires c κs = search needs
-
 -- the last value of the window is a word
 small : (c : tie.Start) → SFits w32 (c .args .base +ℤ pos 63)
 small c = let g = c .fits .base in let h = c .pre in omega (arith, zz, fits-read g, sum (c .args .base) (pos 63))
 
 add-smaller : tie.Need-add-smaller
 add-smaller c = let g = c .before .fits .base in simp toZ-ofZ (small (c .before))
-
-smaller-requires : tie.Need-smaller-requires
-smaller-requires c κs = search needs
 
 -- the two ends of the range
 ends : (c : tie.After-smaller) →
@@ -115,9 +109,9 @@ pub range-mask-spec : {M : Type 1} → statement M
 range-mask-spec =
     tie.close
     (tie.spec
-    larger-requires
+    (λ c κs. search needs)
     add-smaller
-    smaller-requires
+    (λ c κs. search needs)
     returns
     offset-requires
     offset-requires-2

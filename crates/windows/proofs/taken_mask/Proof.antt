@@ -7,12 +7,6 @@ use borrow.Author.Needs.{needs}
 use Rattle.windows.proofs.taken_mask.Statement.{statement}
 use Rattle.windows.proofs.taken_mask.Tie as tie
 
-same-requires : tie.Need-same-requires
-same-requires c κs = search needs
-
-value-mask-requires : tie.Need-value-mask-requires
-value-mask-requires c κs = search needs
-
 returns : tie.Need-returns
 returns c =
     let s = c .before .before .before in
@@ -30,4 +24,4 @@ returns-2 c =
     window-never (eqZ (s .args .taken)) (s .args .base) (eqZ (s .args .variable) (s .args .name)) (simp toZ-ofZ at (sym (c .before .same .ensures) ∙ c .if1 .left))
 
 pub taken-mask-spec : {M : Type 1} → statement M
-taken-mask-spec = tie.close (tie.spec same-requires value-mask-requires returns returns-2)
+taken-mask-spec = tie.close (tie.spec (λ c κs. search needs) (λ c κs. search needs) returns returns-2)

@@ -47,9 +47,6 @@ offset-requires c κs =
     let k = small s in
     simp toZ-ofZ (omega (arith, zz), not-over _ _ (simp toZ-ofZ at (c .if2 .left)))
 
-shl-result : tie.Need-shl-result
-shl-result c = search needs
-
 returns-3 : tie.Need-returns-3
 returns-3 c =
     let s = c .before .before .before in
@@ -60,4 +57,4 @@ returns-3 c =
 
 pub value-mask-spec : {M : Type 1} → statement M
 value-mask-spec =
-    tie.close (tie.spec returns add-if2 returns-2 offset-requires shl-result returns-3)
+    tie.close (tie.spec returns add-if2 returns-2 offset-requires (λ c. search needs) returns-3)
