@@ -8,6 +8,7 @@ use lib.Dec.{ltb}
 use lib.Count as count
 use lib.IntN.{ℤ}
 use lib.ListN.{length, drop, getD}
+use Rattle.meaning.specs.Refusals.{firstOfSteps}
 use Rattle.meaning.specs.Limits.{mostVariables}
 use Rattle.meaning.specs.Model.{Model}
 use Rattle.meaning.specs.Log.{Step, Fact, inference, deduction, noAssignment, neverBelow}
@@ -78,7 +79,7 @@ said-late true c = refl
 said-late false c = refl
 
 -- refusals 1 to 7 report no row
-sized-early : (n num p : ℕ) → num ≤ 7 → says.sized n (says.shutEarly num p) ≡ record { outcome = says.shutEarly num p; size = 0 }
+sized-early : (n num p : ℕ) → num < firstOfSteps → says.sized n (says.shutEarly num p) ≡ record { outcome = says.shutEarly num p; size = 0 }
 sized-early n num p h = rw (early-is num 0 p (omega arith))
 
 sized-late : (held : Step → Bool) (w : Bool) (m : Model) (log : List ℤ) (n : ℕ) → says.sized n (says.over held (sayBy w) m log) ≡ record { outcome = says.over held (sayBy w) m log; size = n }
@@ -102,7 +103,7 @@ module _ (old new log : List ℤ) (places : ℕ) where
   recheck-refused {num} {p} s = go (says.readGood old) (says.readGood new)
     where
       early : (n : ℕ) (next : Model → says.Outcome) → says.sized n (says.guarded new log places next) ≡ Shut num p
-      early n next = ap (says.sized n) (s .1 next) ∙ sized-early n num p (s .0)
+      early n next = ap (says.sized n) (s .1 next) ∙ sized-early n num p (let h = s .0 in omega arith)
 
       fit : (o n : Model) (b : Bool) → says.rechecked o n b new log places ≡ Shut num p
       fit o n true = early _ _

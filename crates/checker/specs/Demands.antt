@@ -8,6 +8,7 @@ use mathlib.Core.List.{List, [], _∷_, _++_}
 use native.Mathlib.Omega.{arith}
 use lib.IntN.{ℤ}
 use lib.ListN.{length, drop, getD}
+use Rattle.meaning.specs.Refusals.{firstOfSteps}
 use Rattle.meaning.specs.Limits.{mostModelWords}
 use Rattle.meaning.specs.Model.{Model}
 use Rattle.meaning.specs.Log.{Step}
@@ -51,11 +52,11 @@ module _ (model log : List ℤ) (lent left : List ℕ) (a : Answer) (promise : G
       subst₂ (λ l a. Written every accepted model log lent l (check model log (length lent) .judged) a) (sym (promise .noted)) (sym (promise .answered)) (so.check-written model log lent)
 
   -- refusals 1 to 7 change nothing
-  pub early-untouched : {num k p : ℕ} → a ≡ shut num k p → num ≤ 7 → left ≡ lent
+  pub early-untouched : {num k p : ℕ} → a ≡ shut num k p → num < firstOfSteps → left ≡ lent
   early-untouched e h = so.after-early so.accepts h places-written e
 
   -- any other refusal, at step k: exactly the first k places are written, each with the position at which its step begins
-  pub refused-writes : {num k p : ℕ} → a ≡ shut num k p → 8 ≤ num → RefusedAfter every model log lent left k
+  pub refused-writes : {num k p : ℕ} → a ≡ shut num k p → firstOfSteps ≤ num → RefusedAfter every model log lent left k
   refused-writes e h = so.after-refusal so.accepts h places-written e
 
   -- accepted: one place for each step, the last of them where the conclusion begins, which ends the log
@@ -95,10 +96,10 @@ module _ (old new log : List ℤ) (lent left : List ℕ) (a : Answer) (promise :
   again-written =
       subst₂ (λ l a. WrittenAgain old new log lent l (recheck old new log (length lent) .outcome .judged) a) (sym (promise .noted)) (sym (promise .answered)) (so.recheck-written old new log lent)
 
-  pub again-untouched : {num k p : ℕ} → a ≡ shut num k p → num ≤ 7 → left ≡ lent
+  pub again-untouched : {num k p : ℕ} → a ≡ shut num k p → num < firstOfSteps → left ≡ lent
   again-untouched e h = so.after-early (so.judges-speaks (again-written .judges)) h (again-written .written) e
 
-  pub again-refused-writes : {num k p : ℕ} → a ≡ shut num k p → 8 ≤ num → RefusedAfter (again-written .held) new log lent left k
+  pub again-refused-writes : {num k p : ℕ} → a ≡ shut num k p → firstOfSteps ≤ num → RefusedAfter (again-written .held) new log lent left k
   again-refused-writes e h = so.after-refusal (so.judges-speaks (again-written .judges)) h (again-written .written) e
 
   -- accepted or carried: one place for each step, the last of them where the conclusion begins, which ends the log

@@ -5,6 +5,7 @@ use mathlib.Core.Bool.{Bool, true}
 use mathlib.Core.List.{List, [], _++_}
 use lib.IntN.{ℤ}
 use lib.ListN.{length, drop, getD}
+use Rattle.meaning.specs.Refusals.{firstOfSteps}
 use Rattle.meaning.specs.Read.{got}
 use Rattle.meaning.specs.Model.{Model}
 use Rattle.meaning.specs.Log.{Fact, Step}
@@ -55,7 +56,7 @@ pub record FirstWords (held : Step → Bool) (m : Model) (log : List ℤ) (lent 
 -- ---- the places `left`, the steps judged and the answer, where `lent` are the places before. `held m t`: is the step t held against its rule; `say`: accepted or carried
 pub data Written (held : Model → Step → Bool) (say : Conclusion → Answer) (model log : List ℤ) (lent : List ℕ) : List ℕ → ℕ → Answer → Type 0 where
   -- refusals 1 to 7 change nothing
-  untouched : {num p : ℕ} → num ≤ 7 → Written held say model log lent lent 0 (shut num 0 p)
+  untouched : {num p : ℕ} → num < firstOfSteps → Written held say model log lent lent 0 (shut num 0 p)
   -- else the model is good, and the starts are those of the steps that passed, told one by one
   walked : {m : Model} {starts : List ℕ} {judged : ℕ} {a : Answer} → Admitted model log (length lent) m → Told (held m) say m 0 0 [] log starts judged a
       → Written held say model log lent (starts ++ drop (length starts) lent) judged a

@@ -7,6 +7,7 @@ use native.Mathlib.Omega.{arith}
 use lib.IntN.{ℤ}
 use lib.ListN.{length, drop, getD, length-drop, length-append, List·getD-append}
 use lib.Seq.{drop-append-seam, drop-drop}
+use Rattle.meaning.specs.Refusals.{firstOfSteps}
 use Rattle.meaning.specs.Limits.{mostLogWords, fewestPlaces}
 use Rattle.meaning.specs.Read.{got}
 use Rattle.meaning.specs.Model.{Model}
@@ -26,11 +27,11 @@ use Rattle.checker.specs.Written.{PassedAt, StartOf, ConcludesAt, FirstW
 
 -- ---- before the walk
 
-early : {model log : List ℤ} {places num p : ℕ} → Barred model log places num p → num ≤ 7
+early : {model log : List ℤ} {places num p : ℕ} → Barred model log places num p → num < firstOfSteps
 early (long-model h) = omega arith
 early (long-log h) = omega arith
 early (few-places h) = omega arith
-early {model} (bad-model e) = refused-inside model e .1
+early {model} (bad-model e) = let h = refused-inside model e .1 in omega arith
 
 abbrev noted : Outcome → List ℕ → List ℕ
 noted o lent = o .starts ++ drop (length (o .starts)) lent
@@ -203,7 +204,7 @@ pub judges-speaks : {old new : List ℤ} {held : Model → Step → Bool} {say :
 judges-speaks (all-steps w) = accepts
 judges-speaks (changed-rows e f h) = carries
 
-late : {held : Step → Bool} {say : Conclusion → Answer} {m : Model} {k at : ℕ} {fs : List Fact} {ws : List ℤ} {l : List ℕ} {j num i p : ℕ} {a : Answer} → Speaks say → Told held say m k at fs ws l j a → a ≡ shut num i p → 8 ≤ num
+late : {held : Step → Bool} {say : Conclusion → Answer} {m : Model} {k at : ℕ} {fs : List Fact} {ws : List ℤ} {l : List ℕ} {j num i p : ℕ} {a : Answer} → Speaks say → Told held say m k at fs ws l j a → a ≡ shut num i p → firstOfSteps ≤ num
 late s ran-out e = let n = ap numberOf e in omega arith
 late s (broke-off r x) e = let n = ap numberOf e in omega arith
 late s (word-off r lo hi) e = let n = ap numberOf e in omega arith
@@ -214,13 +215,13 @@ late s (went r v u w) e = late s w e
 
 -- ---- from what is written to the answer
 module _ {held : Model → Step → Bool} {say : Conclusion → Answer} {model log : List ℤ} {lent : List ℕ} (s : Speaks say) where
-  -- refusals 1 to 7
-  pub after-early : {left : List ℕ} {j num k p : ℕ} {a : Answer} → num ≤ 7 → Written held say model log lent left j a → a ≡ shut num k p → left ≡ lent
+  -- refusals before any step
+  pub after-early : {left : List ℕ} {j num k p : ℕ} {a : Answer} → num < firstOfSteps → Written held say model log lent left j a → a ≡ shut num k p → left ≡ lent
   after-early h (untouched l) e = refl
   after-early h (walked d t) e = let l = late s t e in absurd (omega arith)
 
   -- the others
-  pub after-refusal : {left : List ℕ} {j num k p : ℕ} {a : Answer} → 8 ≤ num → Written held say model log lent left j a → a ≡ shut num k p → RefusedAfter held model log lent left k
+  pub after-refusal : {left : List ℕ} {j num k p : ℕ} {a : Answer} → firstOfSteps ≤ num → Written held say model log lent left j a → a ≡ shut num k p → RefusedAfter held model log lent left k
   after-refusal h (untouched l) e = let n = ap numberOf e in absurd (omega arith)
   after-refusal {num = num} {k = k} {p = p} h (walked {m} {starts} d t) e = go (ended (held m) say m log t refl) e
     where

@@ -1,12 +1,13 @@
 -- What an engine may rely on, in terms of the nine numbers and of its own tables: what opens the gate is earned, what the places say is so, and no tables give the answer of a structure that nobody filled in.
 -- `lent` are the places before the call, `left` those after it. Nothing is asked of the tables. What the records say stands in the checker's Written.
-use Prim.Native.Nat.{ℕ, _≤_}
+use Prim.Native.Nat.{ℕ, _≤_, _<_}
 use mathlib.Core.Path.{_≡_, refl, sym, ap, _∙_, subst}
 use mathlib.Core.Logic.{_⊎_, inl, inr}
 use mathlib.Core.List.{List, []}
 use native.Mathlib.Omega.{arith}
 use lib.IntN.{ℤ}
 use lib.ListN.{length, getD}
+use Rattle.meaning.specs.Refusals.{firstOfSteps}
 use Rattle.meaning.specs.Model.{Model}
 use Rattle.meaning.specs.Judge.{rowAt}
 use Rattle.meaning.specs.Check as says
@@ -80,11 +81,11 @@ module _ (model log : List ℤ) (lent left : List ℕ) (r : DimpsyholtAnswer) (t
   accepted-not-silent e = demands.accepted-not-silent model log lent left (meant r) (of-check told) (accepted-kind r e)
 
   -- kind 0 with a number from 1 to 7: the places are as they were lent
-  pub early-places : r .kind ≡ 0 → r .number ≤ 7 → left ≡ lent
+  pub early-places : r .kind ≡ 0 → r .number < firstOfSteps → left ≡ lent
   early-places e = demands.early-untouched model log lent left (meant r) (of-check told) (refused-kind r e)
 
   -- kind 0 with any other number: the first places are those of the steps before the one refused, all others as lent
-  pub refused-places : r .kind ≡ 0 → 8 ≤ r .number → RefusedAfter demands.every model log lent left (r .step)
+  pub refused-places : r .kind ≡ 0 → firstOfSteps ≤ r .number → RefusedAfter demands.every model log lent left (r .step)
   refused-places e = demands.refused-writes model log lent left (meant r) (of-check told) (refused-kind r e)
 
   -- which steps passed, one by one
@@ -123,10 +124,10 @@ module _ (old new log : List ℤ) (lent left : List ℕ) (r : DimpsyholtAnswer) 
       subst (λ j. WrittenAgain old new log lent left j (meant r)) (sym (judged-so (o .outcome .answer) (o .size) (o .outcome .judged) (told .answered)))
       again-judges
 
-  pub again-early-places : r .kind ≡ 0 → r .number ≤ 7 → left ≡ lent
+  pub again-early-places : r .kind ≡ 0 → r .number < firstOfSteps → left ≡ lent
   again-early-places e = demands.again-untouched old new log lent left (meant r) (of-recheck told) (refused-kind r e)
 
-  pub again-refused-places : r .kind ≡ 0 → 8 ≤ r .number → RefusedAfter (again-judges .held) new log lent left (r .step)
+  pub again-refused-places : r .kind ≡ 0 → firstOfSteps ≤ r .number → RefusedAfter (again-judges .held) new log lent left (r .step)
   again-refused-places e = demands.again-refused-writes old new log lent left (meant r) (of-recheck told) (refused-kind r e)
 
   -- kind 1 or 2: one place for each step, the first 0, the last where the conclusion begins; all others as lent

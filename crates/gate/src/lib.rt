@@ -1,5 +1,6 @@
 // What an engine looks at in an answer, before it opens its gate or takes a place for the start of a step.
 use answer::DimpsyholtAnswer;
+use reading::refusals::NO_CONCLUSION;
 ghost use mathlib.Core.Path.{_≡_};
 ghost use mathlib.Core.Bool.{true};
 ghost use Rattle.gate.specs.Looks.{Opens, OpensAgain, Early, PlaceOf};
@@ -33,14 +34,14 @@ pub fn opens_again(was: DimpsyholtAnswer, again: DimpsyholtAnswer) -> bool
     again.conclusion == 3
 }
 
-// Refused before any step was read.
+// Refused before any step was read: NO_CONCLUSION is the first number that a step can have.
 pub fn is_early(a: DimpsyholtAnswer) -> bool
     ensures { λ r. ⌜ (r ≡ true → Early a) ⌝ }
 {
     if a.kind != 0 {
         return false;
     }
-    a.number <= 7
+    a.number < NO_CONCLUSION
 }
 
 // The place of step k, where a refusal names a later step.
@@ -50,7 +51,7 @@ pub fn place_of(a: DimpsyholtAnswer, k: usize, places: &[u32]) -> Start
     if a.kind != 0 {
         return Start::Unknown;
     }
-    if a.number < 8 {
+    if a.number < NO_CONCLUSION {
         return Start::Unknown;
     }
     if k >= a.step as usize {
