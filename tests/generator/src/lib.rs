@@ -17,7 +17,7 @@ mod walk;
 mod wide;
 
 pub use cases::{Case, Cases};
-pub use long::{long_log, long_proof};
+pub use long::{long_log, long_proof, long_sum_proof};
 pub use models::any_row;
 pub use proofs::proofs;
 pub use random::Random;

@@ -63,6 +63,34 @@ pub fn long_proof(seed: u64) -> (Model, Vec<Step>) {
     }
 }
 
+/// Long as well, with linear rows alone: no four whole numbers from 1 to 4 add up to ten and a half. As many proofs as fit, one after the other.
+pub fn long_sum_proof(seed: u64) -> (Model, Vec<Step>) {
+    let terms = |c| (0..4).map(|v| (c, v)).collect::<Vec<(i32, usize)>>();
+    let model = Model {
+        bounds: vec![(1, 4); 4],
+        rows: vec![Row::linear(21, &terms(2)), Row::linear(-21, &terms(-2))],
+    };
+    let effort = Effort {
+        nodes: 10_000,
+        steps: 1_000,
+    };
+    let mut r = Random::new(seed);
+    let mut steps: Option<Vec<Step>> = None;
+    loop {
+        let Some(more) = prove(&mut r, &model, effort) else {
+            continue;
+        };
+        let longer = match &steps {
+            None => more,
+            Some(before) => one_after_other(before.clone(), more),
+        };
+        if log_words(&longer).len() > LOG_WORDS {
+            return (model, steps.expect("one proof fits"));
+        }
+        steps = Some(longer);
+    }
+}
+
 /// The steps of both, with the conclusion of the second only.
 fn one_after_other(mut first: Vec<Step>, mut second: Vec<Step>) -> Vec<Step> {
     first.pop();

@@ -9,11 +9,14 @@ pub fn all() -> Vec<Scenario> {
     let mixed = checked("whole check, mixed steps", &model, &steps);
     let (model, steps) = generator::long_proof(1);
     let proof = checked("whole check, a search's proof", &model, &steps);
+    let (model, steps) = generator::long_sum_proof(1);
+    let sums = checked("whole check, a search's proof of sums", &model, &steps);
     let mixed_again = unchanged(&mixed, "recheck, nothing changed, mixed");
     let proof_again = unchanged(&proof, "recheck, nothing changed, proof");
     vec![
         mixed,
         proof,
+        sums,
         mixed_again,
         proof_again,
         linear(),
