@@ -78,7 +78,7 @@ said-late : (w : Bool) (c : says.Conclusion) → says.isEarly (sayBy w c) ≡ fa
 said-late true c = refl
 said-late false c = refl
 
--- refusals 1 to 7 report no row
+-- a refusal before any step reports no row
 sized-early : (n num p : ℕ) → num < firstOfSteps → says.sized n (says.shutEarly num p) ≡ record { outcome = says.shutEarly num p; size = 0 }
 sized-early n num p h = rw (early-is num 0 p (omega arith))
 

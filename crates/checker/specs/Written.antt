@@ -55,7 +55,7 @@ pub record FirstWords (held : Step → Bool) (m : Model) (log : List ℤ) (lent 
 
 -- ---- the places `left`, the steps judged and the answer, where `lent` are the places before. `held m t`: is the step t held against its rule; `say`: accepted or carried
 pub data Written (held : Model → Step → Bool) (say : Conclusion → Answer) (model log : List ℤ) (lent : List ℕ) : List ℕ → ℕ → Answer → Type 0 where
-  -- refusals 1 to 7 change nothing
+  -- a refusal before any step changes nothing
   untouched : {num p : ℕ} → num < firstOfSteps → Written held say model log lent lent 0 (shut num 0 p)
   -- else the model is good, and the starts are those of the steps that passed, told one by one
   walked : {m : Model} {starts : List ℕ} {judged : ℕ} {a : Answer} → Admitted model log (length lent) m → Told (held m) say m 0 0 [] log starts judged a
