@@ -1,4 +1,6 @@
 // All-different rows: the row's variables that occur in the fact have fewer values left than they are. Which occur, a set of marks says.
+#![tactic(auto)]
+
 ghost use Rattle.std.specs.Prelude.{◌≡◌, ◌+◌, ◌*◌, ◌≤◌, ◌<◌, length, take};
 ghost use Rattle.std.proofs.Math.Option.{none};
 ghost use Rattle.words.specs.Lists.{keep, All};

@@ -1,4 +1,6 @@
 // Which rows of a model changed: two models are held against each other word by word.
+#![tactic(auto)]
+
 ghost use Rattle.std.specs.Prelude.{◌≡◌};
 ghost use Rattle.meaning.specs.Check.{read_good};
 ghost use Rattle.model.specs.Planned.{model_of, Planned};
@@ -11,7 +13,7 @@ use reading::limits::{MOST_MODEL_WORDS, MOST_ROWS};
 use row_changes;
 
 // Whether the recheck is the whole check; else the set of changed rows, with one bit for each row.
-#[derive(Drop)]
+#[derive(Clone, Copy)]
 pub struct Amended {
     pub whole: bool,
     pub changed: u64,

@@ -1,11 +1,13 @@
 // The answer that crosses to C: nine numbers by value.
+#![tactic(auto)]
+
 ghost use Rattle.std.specs.Prelude.{◌≡◌};
 ghost use Rattle.meaning.specs.Check as says;
 ghost use Rattle.answer.specs.Numbers.{fields_of};
 
 // The answer as include/dimpsyholt.h has it.
 #[repr(C)]
-#[derive(Drop)]
+#[derive(Clone, Copy)]
 pub struct DimpsyholtAnswer {
     pub kind: u32,
     pub number: u32,

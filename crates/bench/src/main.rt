@@ -1,4 +1,6 @@
 // Cases of a text, each a model, a log and perhaps an old model, and what the C interface answers: file stdin says how they are written.
+#![tactic(auto)]
+
 mod cases;
 
 fn main() {

@@ -1,4 +1,6 @@
 // The box of a fact: the declared bounds, narrowed by every premise and by the negated consequent. Beside it, in `occurrences`, the variables of which the fact speaks.
+#![tactic(auto)]
+
 pub mod occurrences;
 
 ghost use Rattle.std.specs.Prelude.{◌≡◌, ◌+◌, ◌*◌, ◌≤◌, ◌<◌, length};

@@ -1,1 +1,2 @@
 // What the domain arithmetic leaves is what the meaning says is left: definitions and laws alone.
+#![tactic(auto)]

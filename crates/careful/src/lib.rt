@@ -1,4 +1,6 @@
 // Reading one step of the log table with care: word by word, so that the first one that is missing or out of its range is found.
+#![tactic(auto)]
+
 mod facts;
 mod kinds;
 mod log;

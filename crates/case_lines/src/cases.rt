@@ -7,7 +7,7 @@ use lines;
 use lines::Word;
 
 // How many words the tables have, how many places are lent, and whether there is an old model.
-#[derive(Drop)]
+#[derive(Clone, Copy)]
 pub struct Case {
     pub again: bool,
     pub old: usize,

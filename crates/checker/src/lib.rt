@@ -1,4 +1,6 @@
 // The check of a log against a model, step by step.
+#![tactic(auto)]
+
 mod entry;
 
 ghost use Rattle.std.specs.Prelude.{◌≡◌, ◌≤◌, length};
@@ -19,7 +21,7 @@ use walking::{Answer, Task};
 const BOX_WORDS: usize = 2 * MOST_VARIABLES + 2 * (MOST_PREMISES + 1 + MOST_HINTS) + 2;
 
 // The recheck's answer: the size of the changed set, and how many steps were held against their rule.
-#[derive(Drop)]
+#[derive(Clone, Copy)]
 pub struct Rechecked {
     pub answer: Answer,
     pub changed: u32,

@@ -1,6 +1,8 @@
 // The circuit row: a set of positions, neither empty nor all, that no value left of its members leaves.
 // Position i leads to position j where a value left to the i-th variable is j. There is such a set exactly where position 0 does not reach all positions, or some position does not reach position 0.
 // A set of positions is a mask with a bit for each.
+#![tactic(auto)]
+
 ghost use Rattle.std.specs.Prelude.{◌≡◌, ◌+◌, ◌-◌, ◌<◌, ◌≤◌, ◌^◌, pos};
 ghost use Rattle.std.specs.Int.Bits.{bit_or, bit_xor};
 ghost use Rattle.std.specs.Int.Count.{count_trailing_zeros};

@@ -9,6 +9,8 @@
 //   covers it. The next start worth a try is e.
 // Where neither is so, s is free. Each leap but the last goes to an end of a sure part: there are hardly more leaps than activities,
 // however long they last.
+#![tactic(auto)]
+
 ghost use Rattle.std.specs.Prelude.{◌≡◌, ◌||◌, [], ◌+◌, ◌<◌, ◌≤◌, pos, ◌+ℤ◌, length, get_or, ◌≤ℤ◌};
 ghost use Rattle.meaning.specs.Limits.{most_usage, most_parts};
 ghost use Rattle.meaning.specs.Rule.{overloaded, squeezed};

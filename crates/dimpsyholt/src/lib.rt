@@ -1,4 +1,6 @@
 // The C interface: the check and the recheck over lent tables, whose answer is nine numbers by value.
+#![tactic(auto)]
+
 ghost use Rattle.std.specs.Prelude.{◌≡◌, length};
 ghost use Rattle.meaning.specs.Check as says;
 ghost use Rattle.dimpsyholt.specs.Fields.{CheckTold, RecheckTold};

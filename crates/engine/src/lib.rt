@@ -1,4 +1,6 @@
 // An engine that calls the C interface, as a proof: what it may do with the answers, in its own words. It asks nothing of the tables.
+#![tactic(auto)]
+
 ghost use Rattle.std.specs.Prelude.{◌≡◌, true};
 ghost use Rattle.engine.specs.Gate.{NoneLeft, NoneLeftAgain, BeginsThere, BeginsThereAgain};
 

@@ -1,4 +1,6 @@
 // The checker's answer as the nine numbers that cross to C.
+#![tactic(auto)]
+
 ghost use Rattle.std.specs.Prelude.{◌≡◌};
 ghost use Rattle.meaning.specs.Limits.{most_variables};
 ghost use Rattle.walking.specs.Told.{told_conclusion, told_answer, ConclusionIn, NamesIn};

@@ -1,4 +1,6 @@
 // What an engine looks at in an answer, before it opens its gate or takes a place for the start of a step.
+#![tactic(auto)]
+
 ghost use Rattle.std.specs.Prelude.{◌≡◌, true};
 ghost use Rattle.gate.specs.Looks.{Opens, OpensAgain, Early, PlaceOf};
 
@@ -6,7 +8,7 @@ use answer::DimpsyholtAnswer;
 use reading::refusals::NO_CONCLUSION;
 
 // Where a step of the log begins, as far as the places say.
-#[derive(Drop)]
+#[derive(Clone, Copy)]
 pub enum Start {
     At(u32),
     Unknown,

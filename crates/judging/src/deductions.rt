@@ -21,7 +21,7 @@ use steps::FactPlace;
 use words::FactNo;
 
 // Where the hints of a deduction stand, and how many they are.
-#[derive(Drop)]
+#[derive(Clone, Copy)]
 pub struct Hints {
     pub from: usize,
     pub many: usize,

@@ -1,4 +1,6 @@
 // How a step is judged: the box of its fact, the row's rule, the hints, the conclusions.
+#![tactic(auto)]
+
 pub mod conclusions;
 pub mod deductions;
 pub mod inferences;
@@ -21,7 +23,7 @@ use steps::{FactPlace, Step};
 use words::FactNo;
 
 // Whether a step meets its rule, or the refusal's number and position.
-#[derive(Drop)]
+#[derive(Clone, Copy)]
 pub enum Verdict {
     Passes,
     Fails(u32, usize),

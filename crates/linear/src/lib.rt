@@ -1,4 +1,6 @@
 // Linear rows: the least sum, in exact signed numbers, held against the bound.
+#![tactic(auto)]
+
 ghost use Rattle.std.specs.Prelude.{◌≡◌, ◌+◌, ◌<◌, length};
 ghost use Rattle.std.specs.Int.Signed.{lt_z};
 ghost use Rattle.meaning.specs.Rule.{least_term, least_sum};

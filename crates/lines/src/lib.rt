@@ -1,7 +1,9 @@
 // Lines of a text: a place in it, and the whole numbers that are written there.
+#![tactic(auto)]
+
 ghost use Rattle.std.specs.Prelude.{◌≤◌, length, ◌≡◌};
 
-#[derive(Drop)]
+#[derive(Clone, Copy)]
 pub enum Word {
     Is(i32, usize),
     Nothing,

@@ -1,4 +1,6 @@
 // A set of numbers in a lent table of 64-bit words, a bit for each number.
+#![tactic(auto)]
+
 ghost use Rattle.std.specs.Prelude.{◌≡◌, ◌*◌, ◌<◌, length};
 ghost use Rattle.marks.specs.Marks.{marked, added};
 

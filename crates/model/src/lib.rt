@@ -1,4 +1,6 @@
 // Reading the model table: every word is held to its range, and the first word of each row is noted. How much it holds is asked where it was read well.
+#![tactic(auto)]
+
 mod bounds;
 mod rows;
 

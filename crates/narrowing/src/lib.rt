@@ -1,4 +1,6 @@
 // What writes a box: an atom or its negation narrows it, and the bounds of a model are loaded into it.
+#![tactic(auto)]
+
 ghost use Rattle.std.specs.Prelude.{◌≡◌, ◌+◌, ◌*◌, ◌≤◌, ◌<◌, pos, negsuc, length, ◌<ℤ◌};
 ghost use Rattle.std.specs.Int.Signed.{le_z};
 ghost use Rattle.domain.specs.Sets.{only_of, or_none};

@@ -1,4 +1,6 @@
 // Reading one row of the model table: its kind, and what that has.
+#![tactic(auto)]
+
 mod cumulative;
 mod distinct;
 mod linear;

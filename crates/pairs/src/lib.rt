@@ -1,4 +1,6 @@
 // Pairs of words in a table, from a place on: whether one is among them, and a window of what stands second in those that begin alike.
+#![tactic(auto)]
+
 ghost use Rattle.std.specs.Prelude.{◌≡◌, ◌&&◌, ◌||◌, ◌+◌, ◌*◌, ◌≤◌, ◌<◌, pos, length, ◌≤ℤ◌};
 ghost use Rattle.words.specs.Int.{eq_z};
 ghost use Rattle.windows.specs.Window.{Window};

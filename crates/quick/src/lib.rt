@@ -1,5 +1,7 @@
 // A quick pass over one step of the log table: where all is well it says where the step ends. Where it is not sure it says 0, no position that a
 // step can end at, and whoever wants to know more reads the step with care. Each run of words has one test of the table's length.
+#![tactic(auto)]
+
 mod facts;
 mod ranges;
 

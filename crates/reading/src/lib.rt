@@ -1,5 +1,7 @@
 // Reading a lent table of signed words: a reader holds the words at a position to their ranges, and answers the position behind them or the
 // numbered refusal. What the words say is asked by position, once they were read well.
+#![tactic(auto)]
+
 pub mod limits;
 pub mod refusals;
 
@@ -12,7 +14,7 @@ use words;
 use words::VarNo;
 
 // The position behind what was read, or a refusal's number and position.
-#[derive(Drop)]
+#[derive(Clone, Copy)]
 pub enum Past {
     Next(usize),
     Refused(u32, usize),

@@ -1,4 +1,6 @@
 // Good and bad tables from the standard input, and what reading them answers.
+#![tactic(auto)]
+
 mod cases;
 mod show;
 

@@ -1,4 +1,6 @@
 // The words of two tables held against each other, and the rows that differ.
+#![tactic(auto)]
+
 ghost use Rattle.std.specs.Prelude.{◌≡◌, ◌+◌, ◌≤◌, length, take, drop};
 ghost use Rattle.meaning.specs.Check.{same_words, changes};
 ghost use Rattle.model.specs.Planned.{model_of};

@@ -1,4 +1,6 @@
 // A set of rows as one number, with one bit for each row.
+#![tactic(auto)]
+
 ghost use Rattle.std.specs.Prelude.{◌≡◌, ◌<◌};
 ghost use Rattle.std.specs.Int.Count.{ones};
 ghost use Rattle.row_set.specs.Bits.{bit_at};

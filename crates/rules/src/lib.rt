@@ -1,4 +1,6 @@
 // The row rules: whether a row conflicts with a box. A crate for each kind of row; here its kind is asked.
+#![tactic(auto)]
+
 ghost use Rattle.std.specs.Prelude.{◌≡◌, ◌*◌, ◌≤◌, length};
 ghost use Rattle.meaning.specs.Log.{Fact};
 ghost use Rattle.meaning.specs.Rule.{conflicts};

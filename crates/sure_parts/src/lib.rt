@@ -1,4 +1,6 @@
 // The sure parts of a cumulative row's activities, in a table: what is surely in use at a time, whatever starts are taken.
+#![tactic(auto)]
+
 ghost use Rattle.std.specs.Prelude.{◌≡◌, ◌<◌, ◌≤◌, length};
 ghost use Rattle.meaning.specs.Limits.{most_parts};
 ghost use Rattle.model.specs.Rows.{activity_at, ActivitiesIn};

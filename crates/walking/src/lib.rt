@@ -1,4 +1,6 @@
 // The walk over the log: one step after the other, each read before its meaning is looked at.
+#![tactic(auto)]
+
 ghost use Rattle.std.specs.Prelude.{◌≡◌, ℕ, ◌+◌, ◌*◌, ◌≤◌, ◌<◌, length, drop, set, []};
 ghost use Rattle.meaning.specs.Limits.{most_rows};
 ghost use Rattle.meaning.specs.Check.{advance, one_more, over};
@@ -21,13 +23,13 @@ use steps::Step;
 use words;
 use words::VarNo;
 
-#[derive(Drop)]
+#[derive(Clone, Copy)]
 pub enum Conclusion {
     NoAssignment,
     NeverBelow(VarNo, i32),
 }
 
-#[derive(Drop)]
+#[derive(Clone, Copy)]
 pub enum Answer {
     Refused {
         number: u32,
@@ -39,7 +41,7 @@ pub enum Answer {
 }
 
 // What the walk has to do: against how large a model, and which steps it holds against their rule: all in whole mode, else the inferences that cite a changed row.
-#[derive(Drop)]
+#[derive(Clone, Copy)]
 pub struct Task {
     pub variables: usize,
     pub rows: usize,
@@ -48,7 +50,7 @@ pub struct Task {
 }
 
 // What one step leads to; the flag says whether it was held against its rule.
-#[derive(Drop)]
+#[derive(Clone, Copy)]
 pub enum Moved {
     // It passed, and the next step begins there.
     Goes(usize, bool),
@@ -59,7 +61,7 @@ pub enum Moved {
 }
 
 // The answer, and how many steps were held against their rule.
-#[derive(Drop)]
+#[derive(Clone, Copy)]
 pub struct Walked {
     pub answer: Answer,
     pub judged: u32,

@@ -1,4 +1,6 @@
 // Windows: 64 whole numbers from `base` on, a bit for each.
+#![tactic(auto)]
+
 ghost use Rattle.std.specs.Prelude.{◌≡◌, ◌&&◌, ◌+◌, ◌-◌, ◌*◌, ◌^◌, ◌≤◌, ◌<◌, pos, ◌+ℤ◌, ◌≤ℤ◌};
 ghost use Rattle.words.specs.Int.{eq_z};
 ghost use Rattle.words.specs.Words.{in_z};

@@ -90,7 +90,7 @@ module _ {A : Type 0} where
   on_cons Q q f y (there m) = f y m
 
   -- one member, and those before and after it
-  pub parted : {xs : List A} {x : A} → In x xs → (l : List A) × (r : List A) × (xs ≡ l ++ x ∷ r)
+  pub parted : {x : A} {xs : List A} → In x xs → (l : List A) × (r : List A) × (xs ≡ l ++ x ∷ r)
   parted {x = x} (here {x = y} {xs} e) = ([], xs, ap (λ z. z ∷ xs) (sym e))
   parted (there {x = y} m) = let q = parted m in (y ∷ q.0, q.1, ap (λ zs. y ∷ zs) q.2)
 
@@ -108,15 +108,16 @@ module _ {A : Type 0} where
   get_or_in (x ∷ xs) zero e h = here refl
   get_or_in (x ∷ xs) (suc i) e h = there (get_or_in xs i e (omega arith))
 
-  pub in_at : {xs : List A} {x : A} (e : A) → In x xs → (i : ℕ) × (i < length xs) × (get_or xs i e ≡ x)
+  pub in_at : {x : A} {xs : List A} (e : A) → In x xs → (i : ℕ) × (i < length xs) × (get_or xs i e ≡ x)
   in_at e (here q) = (0, omega arith, sym q)
   in_at e (there m) = let r = in_at e m in (suc r.0, omega (arith, r.1), r.2)
 
 pub in_map : {A B : Type 0} (f : A → B) (xs : List A) {y : B} → In y (map f xs) → (x : A) × In x xs × (y ≡ f x)
+in_map f [] m = absurd (not-in-nil m)
 in_map f (x ∷ xs) (here e) = (x, here refl, e)
 in_map f (x ∷ xs) (there m) = let r = in_map f xs m in (r.0, there r.1, r.2)
 
-pub map_in : {A B : Type 0} (f : A → B) {xs : List A} {x : A} → In x xs → In (f x) (map f xs)
+pub map_in : {A B : Type 0} (f : A → B) {x : A} {xs : List A} → In x xs → In (f x) (map f xs)
 map_in f (here e) = here (ap f e)
 map_in f (there m) = there (map_in f m)
 
@@ -152,11 +153,11 @@ module _ {A : Type 0} (p : A → Bool) where
   any_found [] e = clash e refl
   any_found (x ∷ xs) e = ⊎_elim (λ q. (x, here refl, q)) (λ h. let r = any_found xs h in (r.0, there r.1, r.2)) (or_cases (p x) (any p xs) e)
 
-  pub any_holds : {xs : List A} {x : A} → In x xs → p x ≡ true → any p xs ≡ true
+  pub any_holds : {x : A} {xs : List A} → In x xs → p x ≡ true → any p xs ≡ true
   any_holds (here {xs = xs} e) h = or_left (any p xs) (ap p (sym e) ∙ h)
   any_holds (there {x = y} m) h = or_right (p y) (any_holds m h)
 
-  pub all_at : {xs : List A} {x : A} → all p xs ≡ true → In x xs → p x ≡ true
+  pub all_at : {x : A} {xs : List A} → all p xs ≡ true → In x xs → p x ≡ true
   all_at h (here {x = y} {xs} e) = ap p e ∙ (and_true (p y) (all p xs) h).0
   all_at h (there {x = y} {xs} m) = all_at (and_true (p y) (all p xs) h).1 m
 
@@ -169,6 +170,7 @@ module _ {A : Type 0} (p : A → Bool) where
   keep_if_in false w vs i = i
 
   pub keep_in : {v : A} (vs : List A) → In v vs → p v ≡ true → In v (keep p vs)
+  keep_in [] i t = absurd (not-in-nil i)
   keep_in {v} (w ∷ vs) (here e) t = subst (λ b. In v (keep_if b w (keep p vs))) (sym t ∙ ap p e) (here e)
   keep_in (w ∷ vs) (there i) t = keep_if_in (p w) w (keep p vs) (keep_in vs i t)
 
@@ -190,6 +192,7 @@ in_member {v} m = any_holds (eq_z v) m (eq_z_refl v)
 -- ---- every member
 module _ {A : Type 0} {P : A → Type 0} where
   pub each_in : {x : A} {xs : List A} → All P xs → In x xs → P x
+  each_in empty i = absurd (not-in-nil i)
   each_in (also h hs) (here e) = subst P (sym e) h
   each_in (also h hs) (there i) = each_in hs i
 
@@ -264,6 +267,7 @@ least_below r (here e) = omega (arith, zz)
 least_below {v = v} r (there m) = let h = r.0 v m in omega (arith, zz)
 
 pub largest_above : (vs : List ℤ) {v : ℤ} → Rising vs → In v vs → v ≤ℤ largest vs
+largest_above [] r i = absurd (not-in-nil i)
 largest_above (v ∷ []) r (here e) = omega (arith, zz)
 largest_above (v ∷ []) r (there m) = absurd (not-in-nil m)
 largest_above (v ∷ (w ∷ vs)) r (here e) = let h = r.0 w (here refl) in let k = largest_above (w ∷ vs) r.1 (here refl) in omega (arith, zz)

@@ -1,17 +1,19 @@
 // Signed words, tables of them, and the three kinds of number.
+#![tactic(auto)]
+
 ghost use Rattle.std.specs.Prelude.{◌≡◌, ◌<◌, pos, ◌*ℤ◌, length, get_or, set, ◌≤ℤ◌};
 ghost use Rattle.std.specs.Int.Signed.{le_z};
 ghost use Rattle.words.specs.Int.{eq_z};
 ghost use Rattle.words.specs.Words.{min_z, max_z, in_z};
 
 // Fact numbers, row numbers and variable numbers are three kinds.
-#[derive(Drop)]
+#[derive(Clone, Copy)]
 pub struct FactNo(pub usize);
 
-#[derive(Drop)]
+#[derive(Clone, Copy)]
 pub struct RowNo(pub usize);
 
-#[derive(Drop)]
+#[derive(Clone, Copy)]
 pub struct VarNo(pub usize);
 
 pub fn at_most(a: i32, b: i32) -> bool
