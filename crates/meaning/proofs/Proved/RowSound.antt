@@ -4,6 +4,7 @@ use Rattle.std.proofs.Common.{arith, sym, subst, ltb-true}
 use mathlib.Core.List.Memᴰ.{append_left as in-first}
 use mathlib.Core.List.Memᴰ.{append_right as in-second}
 use mathlib.Core.List.Memᴰ.{head as here}
+use mathlib.Core.List.Memᴰ.{not-nil as not-in-nil}
 use mathlib.Core.List.Memᴰ.{tail as there}
 use mathlib.Core.List.{List, [], ◌∷◌, Memᴰ as In}
 use Rattle.words.specs.Int.{zz, mul_mono, mul_anti, eq_z}
@@ -50,6 +51,7 @@ once_in {v} (w ∷ vs) (here e) =
 once_in {v} (w ∷ vs) (there i) = choose (In v) (member eq_z w vs) (λ y. once_in vs i) (λ n. there (once_in vs i))
 
 pub union_in : (d : ℕ → List ℤ) {x : ℕ} {v : ℤ} (xs : List ℕ) → In x xs → In v (d x) → In v (union d xs)
+union_in d [] m i = absurd (not-in-nil m)
 union_in d {v = v} (y ∷ ys) (here e) i = in-first (union d ys) (subst (λ (n : ℕ). In v (d n)) e i)
 union_in d (y ∷ ys) (there j) i = in-second (d y) (union_in d ys j i)
 

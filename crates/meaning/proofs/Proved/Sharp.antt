@@ -53,6 +53,7 @@ module _ (a : Assignment) where
   once_length (v ∷ vs) = choose (λ us. length us ≤ suc (length vs)) (member eq_z v vs) (λ e. omega (arith, once_length vs)) (λ e. omega (arith, once_length vs))
 
   in_point : {x : ℕ} (xs : List ℕ) → In x xs → In (a x) (union (point a) xs)
+  in_point [] m = absurd (not-in-nil m)
   in_point (y ∷ xs) (here e) = here (ap a e)
   in_point (y ∷ xs) (there m) = there (in_point xs m)
 
