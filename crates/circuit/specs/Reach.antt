@@ -9,7 +9,7 @@ use Rattle.words.specs.Lists.{member}
 use Rattle.words.specs.ListFacts.{clash, or_left, or_right, or_cases}
 use Rattle.meaning.specs.Below.{up_to_lem}
 use Rattle.words.specs.Bits.{one_of, bit_xor_lem, bit_zero}
-use Rattle.circuit.specs.Mask.{bit, Mask, bit-or, bit-power, or_more, with_stays, with_itself, with_cases, with_more}
+use Rattle.circuit.specs.Mask.{bit, Mask, bit_or_lem, bit_power, or_more, with_stays, with_itself, with_cases, with_more}
 
 -- a value left at position i names position j
 abbrev pub names : (ℕ → List ℤ) → List ℕ → ℕ → ℕ → Bool
@@ -104,8 +104,8 @@ module _ (edge : ℕ → ℕ → Bool) (n : ℕ) where
   pub near_start : 0 < n → Near 1
   near_start h = record {
     below = pow-lt h;
-    start = bit-power 0 0;
-    least = λ t c e k l b. subst (λ z. t z ≡ true) (eqb-true 0 k (sym (bit-power 0 k) ∙ b)) e;
+    start = bit_power 0 0;
+    least = λ t c e k l b. subst (λ z. t z ≡ true) (eqb-true 0 k (sym (bit_power 0 k) ∙ b)) e;
   }
 
   pub near_more : {s m : ℕ} → Near s → Swept s n m → Near m
@@ -151,7 +151,7 @@ module _ (edge : ℕ → ℕ → Bool) (n : ℕ) where
       near = record {
         below = or_lt n seen row w.near.below r.below;
         start = stays 0 w.near.start;
-        least = λ t c q j g h. ⊎_elim (w.near.least t c q j g) (λ b. c k j l g (w.near.least t c q k l fresh.0) (sym (r.bits j g) ∙ b)) (or_cases (bit seen j) (bit row j) (sym (bit-or seen row j) ∙ h));
+        least = λ t c q j g h. ⊎_elim (w.near.least t c q j g) (λ b. c k j l g (w.near.least t c q k l fresh.0) (sym (r.bits j g) ∙ b)) (or_cases (bit seen j) (bit row j) (sym (bit_or_lem seen row j) ∙ h));
       };
       below = or_lt n done (2 ^ k) w.below (pow-lt l);
       known = λ j q. stays j (⊎_elim (w.known j) (λ z. subst (λ y. bit seen y ≡ true) z fresh.0) (with_cases done k j q));
@@ -159,10 +159,10 @@ module _ (edge : ℕ → ℕ → Bool) (n : ℕ) where
     }
       where
         stays : (j : ℕ) → bit seen j ≡ true → bit (bit_or seen row) j ≡ true
-        stays j h = bit-or seen row j ∙ or_left (bit row j) h
+        stays j h = bit_or_lem seen row j ∙ or_left (bit row j) h
 
         comes : (j : ℕ) → j < n → edge k j ≡ true → bit (bit_or seen row) j ≡ true
-        comes j g o = bit-or seen row j ∙ or_right (bit seen j) (r.bits j g ∙ o)
+        comes j g o = bit_or_lem seen row j ∙ or_right (bit seen j) (r.bits j g ∙ o)
 
   pub spread_done : {seen done : ℕ} → Spread seen done → done ≡ seen → Reached seen
   spread_done {seen} {done} w e = record {

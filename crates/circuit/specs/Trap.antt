@@ -7,7 +7,7 @@ use Rattle.words.specs.ListFacts.{clash, tested, same_test, is_true, member_in, 
 use Rattle.meaning.specs.Rule.{holds, trapped}
 use Rattle.meaning.proofs.Proved.Tour.{trap_of, inside_at}
 use Rattle.meaning.proofs.Proved.Trapped.{trapped_by, inside_by}
-use Rattle.circuit.specs.Mask.{bit, full-bit, not_full}
+use Rattle.circuit.specs.Mask.{bit, full_bit, not_full}
 use Rattle.circuit.specs.Reach.{names, leads, Links, Closed, Reached}
 
 -- ---- a test below n as a list of flags
@@ -69,7 +69,7 @@ module _ (edge : ℕ → ℕ → Bool) (n : ℕ) where
   unsplit {a} {b} {t} ra rb ea eb s = ⊎_elim with_start without_start (tested (t 0))
     where
       everywhere : {m : ℕ} → m ≡ 2 ^ n - 1 → (k : ℕ) → k < n → bit m k ≡ true
-      everywhere e k l = ap (λ z. bit z k) e ∙ full-bit n k l
+      everywhere e k l = ap (λ z. bit z k) e ∙ full_bit n k l
 
       with_start : t 0 ≡ true → ⊥
       with_start e =
