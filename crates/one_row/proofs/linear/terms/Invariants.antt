@@ -1,0 +1,10 @@
+use Rattle.std.proofs.Common.{◌-◌}
+use Rattle.meaning.specs.Model.{term}
+use Rattle.reading.specs.Over.{Turned}
+use Rattle.one_row.proofs.linear.terms.Given as goal
+
+abbrev pub invariant-loop-i : goal.invariant-loop-i
+invariant-loop-i l = Turned (term l.v) l.s l.from l.n l.at l.i
+
+abbrev pub decreases-loop-i : goal.decreases-loop-i
+decreases-loop-i l = l.n - l.i
