@@ -1,5 +1,5 @@
 -- Rows of each kind with an assignment that meets them and one that does not, and a model with assignments that solve it and that do not: the meaning of a row is neither empty nor all, and lies where document 01's words put it.
-use Rattle.std.specs.Prelude.{ℕ, List, [], ◌∷◌, get_or, ℤ, pos, negsuc}
+use Rattle.std.specs.Prelude.{List, [], ◌∷◌, get_or, ℤ, pos, negsuc}
 use Rattle.meaning.specs.Model.{Model, Row, linear, all_different, cumulative, circuit}
 use Rattle.meaning.specs.Meets.{Assignment, Meets, Solves}
 

@@ -1,7 +1,7 @@
 -- What follows from an answer that was taken apart, for the reader that goes on from it; and the loop that reads several things in turn.
-use Rattle.std.specs.Prelude.{ℕ, ◌+◌, ◌-◌, ◌≤◌, ◌<◌, ◌≡◌, refl, List, ℤ, pos, length, get_or, drop, ◌≤ℤ◌}
+use Rattle.std.specs.Prelude.{ℕ, ◌+◌, ◌≤◌, ◌<◌, ◌≡◌, List, ℤ, pos, length, get_or, drop, ◌≤ℤ◌}
 use Rattle.std.proofs.Common.{sym, ap, ◌∙◌, arith}
-use Rattle.meaning.specs.Read.{Got, got, refused, Reader, ◌>>=◌, give, count, times}
+use Rattle.meaning.specs.Read.{got, refused, Reader, ◌>>=◌, give, count, times}
 use Rattle.reading.specs.At.{At, nat_at, Between}
 use Rattle.reading.specs.Reading.{skim, skim_give, skim_got, skim_refused, left, left_all, left_more, left_stop, left_none}
 use Rattle.reading.specs.Back.{Known, Found, Back, skim_back, count_back}

@@ -1,5 +1,5 @@
 -- Reading at a position of a table, and reading over something whose value is not wanted.
-use Rattle.std.specs.Prelude.{ℕ, zero, suc, ◌+◌, ◌-◌, ◌≤◌, ◌<◌, ◌≡◌, refl, Bool, true, false, ◌&&◌, List, [], ◌∷◌, ℤ, pos, negsuc, nat_abs, ◌-ℤ◌, ◌≤ℤ◌, length, get_or, drop}
+use Rattle.std.specs.Prelude.{ℕ, zero, suc, ◌+◌, ◌-◌, ◌≤◌, ◌<◌, ◌≡◌, refl, Bool, true, false, ◌&&◌, List, [], ◌∷◌, ℤ, pos, negsuc, nat_abs, ◌-ℤ◌, length, get_or, drop}
 use Rattle.std.proofs.Math.Nat.{sub-zero}
 use Rattle.std.proofs.Common.{add-zero, sym, ap, ◌∙◌, add-one, arith, drop_of_length-le, length-drop, drop-cons, get_or-drop, drop-drop, leb-true}
 use Rattle.std.specs.Int.Signed.{le_z}

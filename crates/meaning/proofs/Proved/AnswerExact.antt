@@ -1,9 +1,9 @@
 -- Each answer exactly then: what is told of a log is that the walk gets to a step and how that step ends it.
-use Rattle.std.specs.Prelude.{ℕ, suc, ◌≡◌, refl, Bool, true, ◌↔◌, List, [], ◌∷◌, ℤ}
-use Rattle.std.proofs.Common.{arith, sym, ap, subst, ◌∙◌}
+use Rattle.std.specs.Prelude.{ℕ, ◌≡◌, Bool, true, ◌↔◌, List, [], ◌∷◌, ℤ}
+use Rattle.std.proofs.Common.{arith, subst}
 use Rattle.meaning.specs.Model.{Model}
 use Rattle.meaning.specs.Log.{Fact, Step}
-use Rattle.meaning.specs.Check.{Answer, Conclusion, accepted, carried, check, recheck, fact_at, one_more, over, changes, cites_changed}
+use Rattle.meaning.specs.Check.{Answer, Conclusion, accepted, carried, fact_at, changes, cites_changed}
 use Rattle.meaning.specs.Outcomes.{Told, ran_out, broke_off, word_off, faulty, trailing, concluded, went}
 use Rattle.meaning.specs.Verdicts.{Reaches, begins, goes_on, Ends, runs_out, cannot_be_read, breaks_its_rule, has_words_after, concludes_so, Answered}
 use Rattle.meaning.specs.Claims.{AnswerIs}

@@ -1,5 +1,5 @@
 -- The examples of rows and of a model: what a rule computes at a point decides whether the row is met.
-use Rattle.std.specs.Prelude.{ℕ, zero, suc, ◌<◌, ◌≤◌, ◌≡◌, refl, true, false, List, [], ◌∷◌, length, get_or, ℤ, pos, negsuc, neg_ℤ}
+use Rattle.std.specs.Prelude.{ℕ, zero, suc, ◌<◌, ◌≤◌, ◌≡◌, refl, true, false, List, [], ◌∷◌, get_or, ℤ, pos, negsuc, neg_ℤ}
 use Rattle.std.proofs.Common.{arith, inl}
 use mathlib.Core.List.Memᴰ.{head as here}
 use mathlib.Core.List.Memᴰ.{tail as there}
@@ -8,7 +8,7 @@ use Rattle.std.specs.Int.Signed.{le_z}
 use Rattle.words.specs.Lists.{All, empty, also}
 use Rattle.words.specs.ListFacts.{clash, le_of, of_le}
 use Rattle.meaning.specs.Limits.{most_coefficient, most_duration, most_usage}
-use Rattle.meaning.specs.Model.{Row, linear, all_different, cumulative, circuit}
+use Rattle.meaning.specs.Model.{Row}
 use Rattle.meaning.specs.Log.{Atom, at_most, Fact}
 use Rattle.meaning.specs.Rule.{conflicts}
 use Rattle.meaning.specs.Meets.{Assignment, Meets, Within, Solves}

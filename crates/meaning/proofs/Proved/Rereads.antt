@@ -1,6 +1,6 @@
 -- Reading back: from a value's own words a reader gives the value, takes just these words, and leaves what stands after them.
 use Rattle.std.specs.Prelude.{ℕ, zero, suc, ◌+◌, ◌<◌, ◌≤◌, ◌≡◌, true, List, [], ◌∷◌, ◌++◌, length, ℤ, pos, nat_abs, ◌≤ℤ◌}
-use Rattle.std.proofs.Common.{arith, sym, ap, subst, ◌∙◌, append_assoc, length-append}
+use Rattle.std.proofs.Common.{arith, ap, ◌∙◌, append_assoc, length-append}
 use Rattle.std.specs.Int.Signed.{le_z}
 use Rattle.words.specs.Int.{zz}
 use Rattle.words.specs.Lists.{All, empty, also}

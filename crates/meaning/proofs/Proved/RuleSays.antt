@@ -1,5 +1,5 @@
 -- The laws of `RuleSays`: each row's test says what document 01 says, over every sum, every list of a union's values, every whole time and every set of positions.
-use Rattle.std.specs.Prelude.{ℕ, zero, suc, ◌+◌, ◌<◌, ◌≤◌, ◌≡◌, refl, Bool, true, false, not, ◌||◌, ◌↔◌, ◌⊎◌, eqb, ltb, length, ℤ, pos, negsuc, ◌+ℤ◌, ◌*ℤ◌, ◌≤ℤ◌}
+use Rattle.std.specs.Prelude.{ℕ, zero, suc, ◌+◌, ◌<◌, ◌≤◌, ◌≡◌, refl, Bool, true, false, not, ◌||◌, ◌↔◌, eqb, ltb, length, ℤ, pos, negsuc, ◌+ℤ◌, ◌*ℤ◌, ◌≤ℤ◌}
 use Rattle.std.proofs.Common.{arith, zero-add, sym, ap, subst, ◌∙◌, inl, inr, ⊎_elim, eqb-true, eq-eqb, ltb-true, ltb-false, lt-ltb}
 use mathlib.Core.List.Memᴰ.{append_cases as in_parts}
 use mathlib.Core.List.Memᴰ.{append_left as in-first}
@@ -15,7 +15,7 @@ use Rattle.words.specs.ListFacts.{clash, choose, any_found, any_holds, all_at, a
 use Rattle.meaning.specs.Model.{Term, Activity, Row, linear, all_different, cumulative, circuit}
 use Rattle.meaning.specs.Log.{Atom, Fact}
 use Rattle.meaning.specs.Rule.{least_term, least_sum, optional, occurs, once, union, crowded, sure, overloaded, blocked_from, squeezed, holds, inside, trapped, conflicts}
-use Rattle.meaning.specs.Faithful.{Sums, no_term, one_term, Occurs, Union, RunsSurely, Uses, no_activity_lem, runs, rests, no_activity, activity_in, all_but, SqueezedAt, Squeeze, Stays, in_set, below_all, above_all, Closed, Conflicts, RuleSays}
+use Rattle.meaning.specs.Faithful.{Sums, no_term, one_term, Occurs, Union, Uses, no_activity_lem, runs, rests, no_activity, activity_in, all_but, SqueezedAt, Squeeze, Stays, in_set, below_all, above_all, Closed, Conflicts, RuleSays}
 use Rattle.meaning.specs.Below.{some_found, some_holds}
 use Rattle.meaning.proofs.Proved.ReadModel.{KnownRow}
 use Rattle.meaning.proofs.Proved.Pigeons.{Apart, apart_of, apart_at, pigeonhole}

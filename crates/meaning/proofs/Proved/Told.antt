@@ -6,7 +6,7 @@ use Rattle.meaning.specs.Model.{Model}
 use Rattle.meaning.specs.Log.{Fact, Step}
 use Rattle.meaning.specs.Judge.{fails}
 use Rattle.meaning.specs.Check.{fact_at, Answer, shut, accepted, carried, Conclusion, Outcome, State, one_more, verdict_of, read_step, start, over}
-use Rattle.meaning.specs.Outcomes.{Fault, OnShut, late, Told, ran_out, broke_off, word_off, faulty, trailing, concluded, went}
+use Rattle.meaning.specs.Outcomes.{OnShut, late, Told, ran_out, broke_off, word_off, faulty, trailing, concluded, went}
 use Rattle.meaning.proofs.Proved.Classes.{fault_read}
 use Rattle.meaning.proofs.Proved.Reading.{Fair, short, off}
 use Rattle.meaning.proofs.Proved.ReadStep.{StepRead, reads_step, step_left, fewest_some, makes_four}
