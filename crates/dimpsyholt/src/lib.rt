@@ -1,4 +1,4 @@
-// The C interface: the check and the recheck over lent tables, whose answer is nine numbers by value.
+// What the C interface does: the check and the recheck over lent tables, whose answer is nine numbers by value.
 #![tactic(auto)]
 
 ghost use Rattle.std.specs.Prelude.{◌≡◌, length};
@@ -10,20 +10,14 @@ use checker;
 use fields;
 
 // The version of this interface, as include/dimpsyholt.h has it: two digits each for minor and patch.
-#[unsafe(no_mangle)]
-pub extern "C" fn dimpsyholt_version() -> u32
+pub fn dimpsyholt_version() -> u32
     ensures { result ≡ 10000 }
 {
     10000
 }
 
 // The log held against the model.
-#[unsafe(no_mangle)]
-pub extern "C" fn dimpsyholt_check(
-    model: &[i32],
-    log: &[i32],
-    places: &mut [u32],
-) -> DimpsyholtAnswer
+pub fn dimpsyholt_check(model: &[i32], log: &[i32], places: &mut [u32]) -> DimpsyholtAnswer
     ensures { CheckTold result places.old places.new (says.check model.now log.now (length places.old)) }
 {
     let a = checker::check(model, log, &mut *places);
@@ -31,8 +25,7 @@ pub extern "C" fn dimpsyholt_check(
 }
 
 // The log held against the new model, as far as it differs from the old one.
-#[unsafe(no_mangle)]
-pub extern "C" fn dimpsyholt_recheck(
+pub fn dimpsyholt_recheck(
     old: &[i32],
     new: &[i32],
     log: &[i32],

@@ -6,7 +6,7 @@ use Rattle.std.proofs.Math.Seq.{length-sets}
 use Rattle.words.specs.Lists.{All}
 use Rattle.meaning.specs.Limits.{most_variables, most_rows}
 use Rattle.meaning.specs.Read.{Got, got, refused}
-use Rattle.meaning.specs.Model.{Model, Row, linear, read_model}
+use Rattle.meaning.specs.Model.{Model, linear, read_model}
 use Rattle.meaning.specs.Judge as judge
 use Rattle.meaning.proofs.Proved.ReadModel.{KnownBounds, known_model}
 use Rattle.reading.specs.At.{each_at}

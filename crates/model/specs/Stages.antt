@@ -1,9 +1,9 @@
 -- The model read in stages: where it is refused before any row is begun, and what is left where its rows begin.
-use Rattle.std.specs.Prelude.{ℕ, ◌≤◌, ◌<◌, ◌≡◌, refl, List, [], ℤ, pos, length, drop}
-use Rattle.std.proofs.Common.{sym, ◌∙◌, arith, drop_of_length-le, drop-cons}
+use Rattle.std.specs.Prelude.{ℕ, ◌≤◌, ◌<◌, ◌≡◌, List, [], ℤ, pos, length, drop}
+use Rattle.std.proofs.Common.{arith, drop_of_length-le, drop-cons}
 use Rattle.meaning.specs.Limits.{most_variables, most_rows}
-use Rattle.meaning.specs.Read.{got, refused, ◌>>=◌, times}
-use Rattle.meaning.specs.Model.{Bounds, Row, Model, number, bounds_pair, row, end, read_model}
+use Rattle.meaning.specs.Read.{got, ◌>>=◌, times}
+use Rattle.meaning.specs.Model.{Bounds, Model, number, bounds_pair, row, end, read_model}
 use Rattle.reading.specs.At.{nat_at}
 use Rattle.reading.specs.Reading.{skim_refused}
 use Rattle.reading.specs.Back.{times_back, count_back}

@@ -1,13 +1,13 @@
 -- What the quick pass says, and how it is put together: where it is sure, the reader goes over the words and on from the end that it names.
-use Rattle.std.specs.Prelude.{ℕ, zero, suc, ◌+◌, ◌*◌, ◌≤◌, ◌<◌, ◌≡◌, refl, Bool, true, false, List, ℤ, pos, nat_abs, length, get_or}
-use Rattle.std.proofs.Common.{sym, ap, subst, ◌∙◌, arith}
-use Rattle.std.proofs.Math.Option.{none, some}
+use Rattle.std.specs.Prelude.{ℕ, zero, suc, ◌+◌, ◌≤◌, ◌<◌, ◌≡◌, refl, Bool, true, false, List, ℤ, pos, nat_abs, length, get_or}
+use Rattle.std.proofs.Common.{sym, ap, subst, arith}
+use Rattle.std.proofs.Math.Option.{some}
 use Rattle.std.specs.Int.Signed.{le_z}
 use Rattle.words.specs.Int.{zz, le_z_f, abs_is, one_side}
 use Rattle.words.specs.ListFacts.{clash, le_of, of_le}
 use Rattle.meaning.specs.Limits.{most_value, most_premises, most_hints}
 use Rattle.meaning.specs.Read.{Reader, ◌>>=◌, neg, within, word, count, below, times}
-use Rattle.meaning.specs.Log.{value, number, number_below, atom, consequent_of, fact, step_of_kind, step}
+use Rattle.meaning.specs.Log.{number, number_below, atom, consequent_of, fact, step_of_kind, step}
 use Rattle.reading.specs.At.{int_at, nat_at, Names, Between}
 use Rattle.reading.specs.Reading.{skim, word_in}
 use Rattle.reading.specs.Back.{between_orders}

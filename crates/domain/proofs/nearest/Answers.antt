@@ -1,9 +1,9 @@
 -- The walk begins at the near end or at `from`, whichever is ahead.
-use Rattle.std.proofs.Common.{◌≡◌, sym, subst, ◌∙◌, Bool, true, false, not, List, ℕ, ◌<◌, ℤ, ◌≤ℤ◌, w32, SFits, to_z, of_z, to_z-of_z}
+use Rattle.std.proofs.Common.{◌≡◌, sym, subst, ◌∙◌, Bool, true, false, not, List, ℕ, ℤ, ◌≤ℤ◌, w32, SFits, to_z, of_z, to_z-of_z}
 use Rattle.std.proofs.Math.Option.{some, none}
 use Rattle.words.specs.Int.{fit}
 use Rattle.domain.specs.Sides.{from_on, further, precedes, does_precede, not_precedes, past_both}
-use Rattle.domain.specs.Box.{variables, low_of, high_of, edge, is_hole, values}
+use Rattle.domain.specs.Box.{low_of, high_of, edge, values}
 use Rattle.domain.specs.Box.Answers.{between_ends, walk_start, walk_found, start_none, start_same}
 use Rattle.domain.proofs.nearest.Goals as goal
 

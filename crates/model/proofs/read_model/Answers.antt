@@ -1,7 +1,6 @@
 use Rattle.model.specs.Stages.{no_variables, no_bounds, no_rows, headed, too_long}
 use Rattle.model.proofs.read_model.Goals as goal
 
-
 pub returns-in_default-clause-noted : goal.returns-in_default-clause-noted
 returns-in_default-clause-noted c = rw (no_variables c.number-g.ensures c.in_default.is).1
 

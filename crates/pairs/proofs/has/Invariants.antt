@@ -1,5 +1,5 @@
 -- Between two turns none of the first k pairs is the one.
-use Rattle.std.proofs.Common.{◌+◌, ◌-◌, ◌≡◌, ◌≤◌, false}
+use Rattle.std.proofs.Common.{◌-◌, ◌≡◌, ◌≤◌, false}
 use Rattle.pairs.specs.Pairs.{among}
 use Rattle.pairs.proofs.has.Given as goal
 

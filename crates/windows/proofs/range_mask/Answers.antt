@@ -38,7 +38,7 @@ some low high base a b e0 e1 h = record {
   b_is = e1;
   from_base = rw e0 (max_above low base).1;
   ordered = omega (arith, zz);
-  to_end = rw e1 (min_under high (base +ℤ pos 63)).1
+  to_end = rw e1 (min_under high (base +ℤ pos 63)).1;
 }
 
 within_a : {low high base a b : ℤ} → Some low high base a b → (base ≤ℤ a) × (a ≤ℤ (base +ℤ pos 63))

@@ -1,0 +1,18 @@
+-- e is the last such end of the first k activities.
+use Rattle.std.proofs.Common.{arith, sym}
+use Rattle.std.specs.Int.{w32}
+use Rattle.std.proofs.lemmas.Int.{to_z-of_z}
+use Rattle.words.specs.Int.{fit}
+use Rattle.cumulative.specs.Turns.{bad_none, bad_more}
+use Rattle.cumulative.proofs.last_bad.Goals as goal
+
+pub loop-k-init : goal.loop-k-init
+loop-k-init c = let f = c.ranges.s in (omega arith, simp to_z-of_z (sym (bad_none _ _ _ _ _ _ 0)))
+
+pub loop-k-preserved : goal.loop-k-preserved
+loop-k-preserved c =
+    let f = c.ranges.s in
+    let g = c.ranges.capacity in
+    let h = c.ranges.stop in
+    let m = fit w32 c.later_end-e.result c.later_end-e.type_inv in
+    (omega arith, simp to_z-of_z (rw (bad_more c.args.parts.now c.args.peaks.now c.args.capacity c.args.i c.args.s c.args.stop c.loop-k.k, ← simp to_z-of_z at c.loop-k.invariant.1) (simp to_z-of_z at c.later_end-e.ensures)))

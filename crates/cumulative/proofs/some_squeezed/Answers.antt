@@ -1,0 +1,67 @@
+-- None of the first i activities is squeezed.
+use Rattle.std.proofs.Common.{rules, ◌+◌, ◌≤◌, ◌<◌, ◌≡◌, ◌∙◌, ℕ, List, ℤ, false, get_or, pos, ◌-ℤ◌, ◌≤ℤ◌, ◌<ℤ◌, arith, sym, SFits}
+use Rattle.std.specs.Int.{w32}
+use Rattle.std.proofs.lemmas.Int.{to_z-of_z}
+use Rattle.words.specs.Int.{zz, fit, lt32_f}
+use Rattle.meaning.specs.Below.{some_holds}
+use Rattle.reading.specs.At.{nat_at}
+use Rattle.domain.specs.Box.{values}
+use Rattle.sure_parts.specs.Table.{usage_of}
+use Rattle.sure_parts.specs.Sizes.{diff_fits}
+use Rattle.cumulative.specs.Turns.{not_below}
+use Rattle.cumulative.specs.Top.{top_of}
+use Rattle.cumulative.specs.Row.{squeezes, row_overload, row_fits, top_small, none_more}
+use Rattle.cumulative.proofs.some_squeezed.Goals as goal
+use Rattle.cumulative.proofs.some_squeezed.Goals.{After-highest-top, then-room-usage+else-squeezed_at, else-room-usage}
+
+-- the most that is surely in use
+most : (c : After-highest-top) → c.highest-top.result ≡ top_of c.args.peaks.now (nat_at c.args.model.now c.args.p)
+most c = rw (← c.number_at-n.ensures) c.highest-top.ensures
+
+pub returns-then-capacity-top : goal.returns-then-capacity-top
+returns-then-capacity-top c =
+    let cap = get_or c.args.model.now (c.args.p + 1) (pos 0) in
+    let f : SFits w32 (get_or c.args.model.now (c.args.p + 1) (pos 0)) = search rules in
+    let m = fit w32 c.highest-top.result c.highest-top.type_inv in
+    let h : cap <ℤ c.highest-top.result = omega (arith, zz, c.if-capacity-top.true) in
+    let e = most (goal.at.returns-then-capacity-top c).After-highest-top in
+    sym (row_overload _ _ _ _ _ c.requires (rw e at h))
+
+-- the room beside it is a word
+room_fits : (c : After-highest-top) → SFits w32 (get_or c.args.model.now (c.args.p + 1) (pos 0) -ℤ c.highest-top.result)
+room_fits c =
+    let k = c.requires.row.capacity in
+    rw (most c) (diff_fits (get_or c.args.model.now (c.args.p + 1) (pos 0)) (top_of c.args.peaks.now (nat_at c.args.model.now c.args.p)) (omega (arith, zz)) (top_small _ _ _ _ _ c.requires))
+
+pub overflow_sub-room : goal.overflow_sub-room
+overflow_sub-room c =
+    let f : SFits w32 (get_or c.args.model.now (c.args.p + 1) (pos 0)) = search rules in
+    let m = fit w32 c.highest-top.result c.highest-top.type_inv in
+    simp to_z-of_z (room_fits (goal.at.overflow_sub-room c).After-highest-top)
+
+pub returns-then-squeezed_at : goal.returns-then-squeezed_at
+returns-then-squeezed_at c =
+    let few : c.loop-i.i < nat_at c.args.model.now c.args.p = rw (← c.number_at-n.ensures) c.loop-i-test.true in
+    sym (some_holds (squeezes (values c.args.cells.now) c.args.model.now c.args.p) (nat_at c.args.model.now c.args.p) c.loop-i.i few (rw (← c.squeezed_at.ensures) c.if-squeezed_at.true))
+
+pub loop-i-preserved : goal.loop-i-preserved
+loop-i-preserved c =
+    let cap = get_or c.args.model.now (c.args.p + 1) (pos 0) in
+    let u = usage_of c.args.parts.now c.loop-i.i in
+    let top = (goal.at.loop-i-preserved c).After-highest-top in
+    let f : SFits w32 (get_or c.args.model.now (c.args.p + 1) (pos 0)) = search rules in
+    let g : SFits w32 (usage_of c.args.parts.now c.loop-i.i) = search rules in
+    let m = fit w32 c.highest-top.result c.highest-top.type_inv in
+    let r = room_fits top in
+    let few : c.loop-i.i < nat_at c.args.model.now c.args.p = rw (← c.number_at-n.ensures) c.loop-i-test.true in
+    let t = squeezes (values c.args.cells.now) c.args.model.now c.args.p in
+    -- an activity that fits beside all
+    let beside = λ (h : u ≤ℤ (cap -ℤ c.highest-top.result)). row_fits _ _ _ _ _ c.requires c.loop-i.i few (rw (most top) at h) in
+    (
+      omega arith,
+      none_more t c.loop-i.i c.loop-i.invariant.1
+      (elim c.if-room-usage.branch [
+        then-room-usage+else-squeezed_at w ↦ sym w.squeezed_at.ensures ∙ w.if-squeezed_at.false
+      | else-room-usage w ↦ beside (not_below _ _ (lt32_f _ _ r g (simp (to_z-of_z w32 cap f, to_z-of_z w32 c.highest-top.result m) at w.if-room-usage.false)))
+      ]),
+    )
