@@ -6,7 +6,8 @@ use native.Mathlib.Omega.{arith}
 use Rattle.words.specs.Lists.{is_empty}
 use Rattle.meaning.specs.Limits.{most_premises, most_hints}
 use Rattle.domain.specs.Box.{hole_place, variables, Formed, values}
-use Rattle.narrowing.specs.Narrow.{Room, opposite, shifted, narrowed, narrowed_variables, narrowed_formed, narrowed_room, room_one}
+use Rattle.narrowing.specs.Narrow.{Room, opposite, shifted, narrowed}
+use Rattle.narrowing.proofs.NarrowFacts.{narrowed_variables, narrowed_formed, narrowed_room, room_one}
 use Rattle.narrowing.specs.Load.{loaded, loaded_formed, loaded_variables, loaded_room}
 use Rattle.reading.specs.At.{nat_at, int_at}
 use Rattle.steps.specs.Facts.{AtomIn}

@@ -17,9 +17,11 @@ use Rattle.meaning.specs.Box.{met_by, declared_at, left, any_empty, box_of, add_
 use Rattle.meaning.proofs.Proved.Narrow.{keep_all}
 use Rattle.meaning.specs.Below.{up_to_lem}
 use Rattle.narrowing.specs.Load.{loaded}
-use Rattle.narrowing.specs.Narrow.{Room, narrowed_room, room_one}
-use Rattle.bridge.specs.Agrees.{Agrees, agrees_words, agrees_words_last, agrees_negated}
-use Rattle.bridge.specs.Answers.{empty_left}
+use Rattle.narrowing.specs.Narrow.{Room}
+use Rattle.narrowing.proofs.NarrowFacts.{narrowed_room, room_one}
+use Rattle.bridge.specs.Agrees.{Agrees}
+use Rattle.bridge.proofs.Agrees.{agrees_words, agrees_words_last, agrees_negated}
+use Rattle.bridge.proofs.Answers.{empty_left}
 use Rattle.reading.specs.At.{nat_at, int_at, each_at, length_each, get_or_each}
 use Rattle.steps.specs.Facts.{AtomIn, FactIn, atom_at, then_at, fact_of}
 use Rattle.steps.specs.declared.FactPlace.{FactPlace}

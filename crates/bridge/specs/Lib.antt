@@ -1,4 +1,3 @@
 pub mod Relations
 pub mod Lefts
 pub mod Agrees
-pub mod Answers

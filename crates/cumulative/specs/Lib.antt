@@ -1,10 +1,5 @@
 -- The cumulative rule by leaps: which times have to be tried; what the search computes; that a leap is right; the whole row.
 pub mod Jumps
 pub mod Steps
-pub mod Turns
-pub mod Ends
-pub mod Beside
-pub mod Leaps
 pub mod Top
-pub mod Search
 pub mod Row

@@ -14,7 +14,7 @@ use Rattle.meaning.specs.Box.{left}
 use Rattle.meaning.specs.Judge.{Verdict, passes, fails, premises_hold, unless_emptied, take_hint, follow_hints}
 use Rattle.domain.specs.Box.{values, stands}
 use Rattle.bridge.specs.Agrees.{Agrees}
-use Rattle.bridge.specs.Answers.{holds_left, empty_left}
+use Rattle.bridge.proofs.Answers.{holds_left, empty_left}
 use Rattle.reading.specs.At.{nat_at, int_at, each_at}
 use Rattle.steps.specs.Facts.{AtomIn, FactIn, atom_at, then_at, fact_of}
 use Rattle.steps.specs.declared.FactPlace.{FactPlace}

@@ -13,8 +13,8 @@ use Rattle.meaning.specs.Judge.{judge_inference, judge_deduction, follow_hints, 
 use Rattle.meaning.proofs.Proved.ReadModel.{KnownBounds}
 use Rattle.domain.specs.Box.{variables, values, Formed}
 use Rattle.narrowing.specs.Load.{loaded_room}
-use Rattle.bridge.specs.Agrees.{agrees_loaded}
-use Rattle.bridge.specs.Answers.{all_some, all_small}
+use Rattle.bridge.proofs.Agrees.{agrees_loaded}
+use Rattle.bridge.proofs.Answers.{all_some, all_small}
 use Rattle.reading.specs.At.{each_at}
 use Rattle.model.specs.Rows.{bounds_at, row_at}
 use Rattle.model.specs.Planned.{model_of, Planned}

@@ -5,8 +5,8 @@ use Rattle.std.proofs.Common.{arith}
 use Rattle.meaning.specs.Limits.{most_value, most_premises, most_hints}
 use Rattle.meaning.specs.Read.{neg}
 use Rattle.meaning.specs.Log.{Atom, Step, atom, consequent_of, fact, step_of_kind, step}
-use Rattle.reading.specs.At.{At, int_at, nat_at, each_at, Names, Between, Each}
-use Rattle.reading.specs.Back.{Known, Back, Ranged, said_as, one, word_back, count_back, below_back, give_back, refuse_back, bind_back, times_back, ranged_size, between_orders}
+use Rattle.reading.specs.At.{At, int_at, nat_at, Names, Between, Each}
+use Rattle.reading.specs.Back.{Known, Back, Ranged, said_as, word_back, count_back, below_back, give_back, refuse_back, bind_back, times_back, ranged_size, between_orders}
 use Rattle.steps.specs.Facts.{atom_at, then_at, premises_end, fact_at, fact_next, fact_start, AtomIn, FactFrom}
 use Rattle.steps.specs.Told.{step_of, placed_kind, placed}
 

@@ -8,8 +8,8 @@ use Rattle.meaning.specs.Check.{turn, makes}
 use Rattle.meaning.proofs.Proved.Reading.{Fair, short, off}
 use Rattle.meaning.proofs.Proved.ReadStep.{StepRead, reads_step, step_left, fewest_some}
 use Rattle.reading.specs.At.{int_at, nat_at, Names, Between, Each}
-use Rattle.reading.specs.Reading.{skim, skim_refused}
-use Rattle.reading.specs.Back.{ranged_size, skim_back}
+use Rattle.reading.specs.Reading.{skim_refused}
+use Rattle.reading.specs.Back.{ranged_size}
 use Rattle.reading.specs.Told.{told_past, Skims}
 use Rattle.reading.specs.Over.{got_over}
 use Rattle.reading.specs.declared.Past.{Past}

@@ -4,7 +4,7 @@ use Rattle.meaning.specs.Limits.{most_parts}
 use Rattle.model.specs.Rows.{ActivitiesIn}
 use Rattle.domain.specs.Box.{variables}
 use Rattle.sure_parts.specs.Fill.{sized_zeros}
-use Rattle.cumulative.specs.Row.{by_activity}
+use Rattle.cumulative.proofs.Row.{by_activity}
 use Rattle.cumulative.proofs.conflicts.Goals as goal
 
 pub fill_parts-requires : goal.fill_parts-requires

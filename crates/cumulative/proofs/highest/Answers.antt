@@ -3,7 +3,7 @@ use Rattle.std.proofs.Common.{rules, get_or, pos, arith, sym, SFits}
 use Rattle.std.specs.Int.{w32}
 use Rattle.std.proofs.lemmas.Int.{to_z-of_z}
 use Rattle.words.specs.Int.{fit}
-use Rattle.cumulative.specs.Top.{top_none, top_more}
+use Rattle.cumulative.proofs.Top.{top_none, top_more}
 use Rattle.cumulative.proofs.highest.Goals as goal
 
 pub loop-k-init : goal.loop-k-init

@@ -3,7 +3,7 @@ use Rattle.std.proofs.Common.{arith, sym}
 use Rattle.std.specs.Int.{w32}
 use Rattle.std.proofs.lemmas.Int.{to_z-of_z}
 use Rattle.words.specs.Int.{fit}
-use Rattle.cumulative.specs.Turns.{bad_none, bad_more}
+use Rattle.cumulative.proofs.Turns.{bad_none, bad_more}
 use Rattle.cumulative.proofs.last_bad.Goals as goal
 
 pub loop-k-init : goal.loop-k-init

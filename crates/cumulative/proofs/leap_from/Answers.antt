@@ -6,7 +6,7 @@ use Rattle.words.specs.Int.{zz, fit}
 use Rattle.sure_parts.specs.Table.{load, most_load}
 use Rattle.sure_parts.specs.Sizes.{load_small}
 use Rattle.cumulative.specs.Steps.{over}
-use Rattle.cumulative.specs.Turns.{start_fits, leap_over, leap_under}
+use Rattle.cumulative.proofs.Turns.{start_fits, leap_over, leap_under}
 use Rattle.cumulative.proofs.leap_from.Goals as goal
 use Rattle.cumulative.proofs.leap_from.Goals.{After-sure_at-load, After-over}
 

@@ -5,7 +5,7 @@ use Rattle.std.proofs.lemmas.Int.{to_z-of_z}
 use Rattle.words.specs.Int.{zz, fit}
 use Rattle.sure_parts.specs.Table.{from_of}
 use Rattle.sure_parts.specs.Sizes.{near_fits}
-use Rattle.cumulative.specs.Turns.{next_none, next_more}
+use Rattle.cumulative.proofs.Turns.{next_none, next_more}
 use Rattle.cumulative.proofs.next_end.Goals as goal
 
 pub loop-k-init : goal.loop-k-init

@@ -8,9 +8,10 @@ use Rattle.reading.specs.At.{nat_at}
 use Rattle.domain.specs.Box.{values}
 use Rattle.sure_parts.specs.Table.{usage_of}
 use Rattle.sure_parts.specs.Sizes.{diff_fits}
-use Rattle.cumulative.specs.Turns.{not_below}
+use Rattle.cumulative.proofs.Turns.{not_below}
 use Rattle.cumulative.specs.Top.{top_of}
-use Rattle.cumulative.specs.Row.{squeezes, row_overload, row_fits, top_small, none_more}
+use Rattle.cumulative.specs.Row.{squeezes}
+use Rattle.cumulative.proofs.Row.{row_overload, row_fits, top_small, none_more}
 use Rattle.cumulative.proofs.some_squeezed.Goals as goal
 use Rattle.cumulative.proofs.some_squeezed.Goals.{After-highest-top, then-room-usage+else-squeezed_at, else-room-usage}
 

@@ -11,7 +11,8 @@ use Rattle.domain.specs.Box.{values}
 use Rattle.sure_parts.specs.Table.{from_of, until_of}
 use Rattle.sure_parts.specs.Sizes.{small_fits}
 use Rattle.cumulative.specs.Steps.{leap}
-use Rattle.cumulative.specs.Row.{Prepared, Trying, try_start, try_small, try_free, try_beyond, try_none, try_on}
+use Rattle.cumulative.specs.Row.{Prepared}
+use Rattle.cumulative.proofs.Row.{Trying, try_start, try_small, try_free, try_beyond, try_none, try_on}
 use Rattle.cumulative.proofs.squeezed_at.Goals as goal
 use Rattle.cumulative.proofs.squeezed_at.Goals.{After-leap_from-u, After-next_from-next, In-At}
 

@@ -2,7 +2,7 @@ use Rattle.std.proofs.Common.{◌+◌, ◌-◌}
 use Rattle.words.specs.Int.{pp, nn}
 use Rattle.reading.specs.At.{nat_at}
 use Rattle.domain.specs.Box.{values}
-use Rattle.cumulative.specs.Search.{Searching}
+use Rattle.cumulative.proofs.Search.{Searching}
 use Rattle.cumulative.specs.Row.{activities, nobody}
 use Rattle.cumulative.proofs.squeezed_at.Given as goal
 

@@ -1,7 +1,7 @@
 -- The two words of the new hole and the number of holes are written.
 use Rattle.std.proofs.Common.{sym, ◌+◌, arith, to_z-of_z}
 use Rattle.windows.specs.Window.{small_word}
-use Rattle.narrowing.specs.Narrow.{holed_is}
+use Rattle.narrowing.proofs.NarrowFacts.{holed_is}
 use Rattle.narrowing.proofs.add_hole.Goals as goal
 
 pub returns : goal.returns

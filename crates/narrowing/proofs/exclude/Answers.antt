@@ -4,7 +4,7 @@ use Rattle.words.specs.Int.{zz, fit, fits_read, sum, diff}
 use Rattle.words.specs.Words.{in_z}
 use Rattle.domain.specs.Sets.{in_ends}
 use Rattle.domain.specs.Box.{low_of, high_of}
-use Rattle.narrowing.specs.Narrow.{excluded_outside, excluded_between, excluded_low, excluded_high, excluded_alone}
+use Rattle.narrowing.proofs.NarrowFacts.{excluded_outside, excluded_between, excluded_low, excluded_high, excluded_alone}
 use Rattle.narrowing.proofs.exclude.Goals as goal
 
 module _ (cells : List ℤ) (x : ℕ) (v a b : ℤ) (t : Bool) (f : SFits w32 v) (g : SFits w32 a) (h : SFits w32 b) (p : a ≡ low_of cells x) (q : b ≡ high_of cells x) (e : t ≡ in_z (to_z w32 (of_z w32 a)) (to_z w32 (of_z w32 b)) (to_z w32 (of_z w32 v))) where

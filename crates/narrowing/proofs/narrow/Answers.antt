@@ -1,7 +1,7 @@
 -- The ends move to values that are left, or a value between them becomes a hole.
 use Rattle.std.proofs.Common.{◌∙◌, pos, to_z-of_z}
 use Rattle.words.specs.Int.{is_lit, eq32_f}
-use Rattle.narrowing.specs.Narrow.{narrowed_at_most, narrowed_at_least, narrowed_equal, narrowed_not_equal}
+use Rattle.narrowing.proofs.NarrowFacts.{narrowed_at_most, narrowed_at_least, narrowed_equal, narrowed_not_equal}
 use Rattle.narrowing.proofs.narrow.Goals as goal
 
 pub returns-then-relation-eq1 : goal.returns-then-relation-eq1

@@ -2,7 +2,7 @@
 use Rattle.std.proofs.Common.{sym, ap, ◌∙◌, rules, w32, SFits, to_z-of_z}
 use Rattle.words.specs.Int.{fit}
 use Rattle.domain.specs.Told.{told_next}
-use Rattle.narrowing.specs.Narrow.{squeezed_up, squeezed_down}
+use Rattle.narrowing.proofs.NarrowFacts.{squeezed_up, squeezed_down}
 use Rattle.narrowing.proofs.squeeze.Goals as goal
 
 pub returns-then-up : goal.returns-then-up

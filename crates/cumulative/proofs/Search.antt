@@ -12,7 +12,7 @@ use Rattle.meaning.proofs.Proved.Positions.{others_of, squeezed_at}
 use Rattle.domain.specs.Sets.{first_from, first_from_in, first_from_least, none_from_left}
 use Rattle.sure_parts.specs.Table.{from_of}
 use Rattle.cumulative.specs.Steps.{leap}
-use Rattle.cumulative.specs.Leaps.{Tables, Leapt, free, onward, leapt}
+use Rattle.cumulative.proofs.Leaps.{Tables, Leapt, free, onward, leapt}
 
 -- s is a start left, and all before it are blocked
 pub record Searching (d : ℕ → List ℤ) (c : ℕ) (nobody : Activity) (acts : List Activity) (i : ℕ) (s : ℤ) : Type 0 where

@@ -14,10 +14,10 @@ use Rattle.cumulative.specs.Jumps.{bad, tries, tried, tries_covers, Passed, pass
 use Rattle.meaning.proofs.Proved.Positions.{others_of, others_at}
 use Rattle.sure_parts.specs.Table.{from_of, until_of, peak}
 use Rattle.cumulative.specs.Steps.{over, over_by, next_end, leap}
-use Rattle.cumulative.specs.Turns.{leap_over, leap_under}
-use Rattle.cumulative.specs.Ends.{next_first, no_room, Last, nowhere, found, last_is}
+use Rattle.cumulative.proofs.Turns.{leap_over, leap_under}
+use Rattle.cumulative.proofs.Ends.{next_first, no_room, Last, nowhere, found, last_is}
 use Rattle.sure_parts.specs.Parts.{Part}
-use Rattle.cumulative.specs.Beside.{over_is}
+use Rattle.cumulative.proofs.Beside.{over_is}
 
 -- the number before v, the other way round
 of_before : (v w : ℤ) → (v -ℤ pos 1) <ℤ w → v ≤ℤ w

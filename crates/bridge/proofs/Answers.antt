@@ -13,7 +13,7 @@ use Rattle.meaning.specs.Log.{relation_of, Atom}
 use Rattle.meaning.specs.Box.{meets, left, any_empty}
 use Rattle.meaning.specs.Below.{up_to_lem}
 use Rattle.meaning.proofs.Proved.ReadModel.{KnownBounds}
-use Rattle.bridge.specs.Relations.{stands_meets}
+use Rattle.bridge.proofs.Relations.{stands_meets}
 use Rattle.bridge.specs.Lefts.{left_small}
 use Rattle.bridge.specs.Agrees.{Agrees}
 
