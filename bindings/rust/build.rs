@@ -31,7 +31,7 @@ fn link_from(folder: &str) {
         Ok(bytes) => match processor(&bytes) {
             Some(name) if name != wanted => warn(&format!(
                 "{shown} is for {name}, and this build is for {wanted}; \
-                 `{TOOL} {shown}`, run on a machine of that kind, writes one for it"
+                 `{TOOL} {shown}` writes one for x86-64, the one processor that the toolchain has"
             )),
             _ => println!("cargo:rustc-link-search=native={folder}"),
         },

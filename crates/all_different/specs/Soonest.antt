@@ -6,7 +6,6 @@ use mathlib.Core.List.Memᴰ.{append_cases as in_either}
 use mathlib.Core.List.Memᴰ.{append_left as in-first}
 use mathlib.Core.List.Memᴰ.{append_right as in-second}
 use mathlib.Core.List.Memᴰ.{not-nil as not-in-nil}
-use mathlib.Core.List.Memᴰ.{tail as there}
 use mathlib.Core.List.{List, [], ◌∷◌, ◌++◌, append_assoc, append-nil, Memᴰ as In}
 use Rattle.std.specs.Int.Signed.{le_z}
 use Rattle.words.specs.Int.{zz}

@@ -1,12 +1,17 @@
 // Cases of a text, each a model, a log and perhaps an old model, and what the C interface answers: file stdin says how they are written.
 #![tactic(auto)]
 
+use std::io;
+
 mod cases;
 
-fn main() {
-    let mut text = io::large_buffer();
-    let n = io::read_full(0, &mut text);
+// The most bytes of the text that are read.
+const MOST_TEXT: usize = 65536;
+
+fn main(rt: HostRuntime) -> io::Result<()> {
+    let mut text = [0u8; MOST_TEXT];
+    let n = lines::filled(&mut rt.reader(), &mut text)?;
     let mut words = [0i32; 24579];
     let mut places = [0u32; 4096];
-    cases::all(&text[..n], &mut words, &mut places);
+    cases::all(&rt, &text[..n], &mut words, &mut places)
 }

@@ -1,5 +1,5 @@
 -- The box of a fact as the words of the tables make it: loaded, narrowed atom by atom, and whether a set of it is empty.
-use Prim.Native.Nat.{ℕ, zero, suc, ◌+◌, ◌*◌, ◌-◌, ◌≤◌, ◌<◌}
+use Prim.Native.Nat.{ℕ, zero, suc, ◌+◌, ◌*◌, ◌≤◌, ◌<◌}
 use Rattle.std.specs.Prelude.{◌≡◌, refl, Bool, false, ◌||◌, List, ℤ, length}
 use Rattle.std.proofs.Common.{◌∙◌}
 use native.Mathlib.Omega.{arith}

@@ -7,7 +7,6 @@ use Rattle.std.proofs.Math.Bool.{◌||◌}
 use mathlib.Core.List.Memᴰ.{head as here}
 use mathlib.Core.List.Memᴰ.{tail as there}
 use mathlib.Core.List.{List, [], ◌∷◌, ◌++◌, append-nil, append_assoc, Memᴰ as In}
-use Rattle.std.proofs.Math.Option.{some}
 use Rattle.words.specs.Lists.{any, all, is_empty}
 use Rattle.words.specs.ListFacts.{clash, same_test, or_cases, or_left, or_right, or_none_lem, any_found, any_holds, in_at}
 use Rattle.meaning.specs.Limits.{most_premises}

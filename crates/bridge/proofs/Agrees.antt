@@ -6,7 +6,7 @@ use Rattle.std.proofs.lemmas.Bool.{eqb-false}
 use Rattle.words.specs.Lists.{keep, All, empty, also}
 use Rattle.words.specs.ListFacts.{tested, each_at_lem, le_of}
 use Rattle.domain.specs.Sets.{from_to, from_to_span}
-use Rattle.domain.specs.Box.{variables, Formed, values, values_beyond, stands}
+use Rattle.domain.specs.Box.{variables, values, values_beyond, stands}
 use Rattle.narrowing.specs.Load.{loaded, loaded_variables, loaded_formed, loaded_values}
 use Rattle.narrowing.specs.Narrow as D
 use Rattle.narrowing.specs.Narrow.{Room, narrowed}

@@ -4,7 +4,7 @@ use Rattle.std.proofs.Common.{sym, ap, ◌∙◌, arith}
 use Rattle.words.specs.Int.{zz}
 use Rattle.domain.specs.Box.{stands}
 use Rattle.narrowing.specs.Narrow as D
-use Rattle.meaning.specs.Log.{Relation, at_most, at_least, equal, not_equal, relation_of, Atom}
+use Rattle.meaning.specs.Log.{Relation, at_most, at_least, equal, not_equal, relation_of}
 use Rattle.meaning.specs.Box.{meets, opposite, shifted, negated}
 use Rattle.bridge.specs.Relations.{atom_of, number}
 

@@ -5,6 +5,7 @@ ghost use Rattle.std.specs.Prelude.{◌≡◌, ◌+◌, ◌≤◌, ◌<◌, leng
 use crate::show;
 use lines;
 use lines::Word;
+use std::io;
 
 // How many words the tables have, how many places are lent, and whether there is an old model.
 #[derive(Clone, Copy)]
@@ -203,23 +204,30 @@ fn is_table(letter: u8) -> bool {
 }
 
 // A line that asks for nothing, by its first letter.
-pub fn given(text: &[u8], at: usize, end: usize, c: Case, words: &mut [i32]) -> Case {
+pub fn given(
+    rt: &impl Print,
+    text: &[u8],
+    at: usize,
+    end: usize,
+    c: Case,
+    words: &mut [i32],
+) -> io::Result<Case> {
     if 65536 <= at {
-        return c;
+        return Ok(c);
     }
     if text.len() <= at + 1 {
-        return c;
+        return Ok(c);
     }
     if lends(text, at) {
-        return with_lent(c, number_at(text, at + 4));
+        return Ok(with_lent(c, number_at(text, at + 4)));
     }
     let letter = text[at];
     if letter == b'c' {
-        show::line(text, at, end);
-        return anew(c);
+        show::line(rt, text, at, end)?;
+        return Ok(anew(c));
     }
     if is_table(letter) {
-        return table(text, at, letter, c, words);
+        return Ok(table(text, at, letter, c, words));
     }
-    c
+    Ok(c)
 }

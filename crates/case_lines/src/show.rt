@@ -1,67 +1,69 @@
 // An answer as the lines of the text have it.
 use answer::DimpsyholtAnswer;
+use std::io;
 
-fn text(s: &[u8]) {
-    io::write_all(1, s);
+fn text(rt: &impl Print, s: &[u8]) -> io::Result<()> {
+    rt.write_all(s)
 }
 
 // A line of a text, as it stands there.
-pub fn line(s: &[u8], from: usize, end: usize) {
+pub fn line(rt: &impl Print, s: &[u8], from: usize, end: usize) -> io::Result<()> {
     if end < from {
-        return;
+        return Ok(());
     }
     if s.len() < end {
-        return;
+        return Ok(());
     }
-    text(&s[from..end]);
-    text(b"\n");
+    text(rt, &s[from..end])?;
+    text(rt, b"\n")
 }
 
-fn number(n: u32) {
-    text(b" ");
-    io::print_decimal(1, n as u64);
+fn number(rt: &impl Print, n: u32) -> io::Result<()> {
+    text(rt, b" ")?;
+    print!(rt; "{n}")
 }
 
 // The least word has no counterpart above zero.
-fn signed(v: i32) {
+fn signed(rt: &impl Print, v: i32) -> io::Result<()> {
     if v < -2147483647 {
-        text(b"-2147483648");
-        return;
+        return text(rt, b"-2147483648");
     }
     if v < 0 {
-        text(b"-");
-        io::print_decimal(1, words::index(-v) as u64);
+        text(rt, b"-")?;
+        let size = words::index(-v);
+        print!(rt; "{size}")
     } else {
-        io::print_decimal(1, words::index(v) as u64);
+        let size = words::index(v);
+        print!(rt; "{size}")
     }
 }
 
 // The nine numbers.
-pub fn answer(a: DimpsyholtAnswer) {
-    text(b"answer");
-    number(a.kind);
-    number(a.number);
-    number(a.step);
-    number(a.position);
-    number(a.conclusion);
-    number(a.variable);
-    text(b" ");
-    signed(a.value);
-    number(a.changed);
-    number(a.judged);
-    text(b"\n");
+pub fn answer(rt: &impl Print, a: DimpsyholtAnswer) -> io::Result<()> {
+    text(rt, b"answer")?;
+    number(rt, a.kind)?;
+    number(rt, a.number)?;
+    number(rt, a.step)?;
+    number(rt, a.position)?;
+    number(rt, a.conclusion)?;
+    number(rt, a.variable)?;
+    text(rt, b" ")?;
+    signed(rt, a.value)?;
+    number(rt, a.changed)?;
+    number(rt, a.judged)?;
+    text(rt, b"\n")
 }
 
 // The places that are not as they were lent.
-pub fn written(places: &[u32]) {
-    text(b"written");
+pub fn written(rt: &impl Print, places: &[u32]) -> io::Result<()> {
+    text(rt, b"written")?;
     let mut k: usize = 0;
     while k < places.len() {
         let start = places[k];
         if start < 4294967295 {
-            number(start);
+            number(rt, start)?;
         }
         k += 1;
     }
-    text(b"\n");
+    text(rt, b"\n")
 }

@@ -1,5 +1,5 @@
 -- The positions that position 0 reaches, as a mask: found one position at a time, or by sweeps until nothing is added.
-use Rattle.std.specs.Prelude.{ℕ, ◌+◌, ◌-◌, ◌^◌, ◌≤◌, ◌<◌, ◌≡◌, refl, Bool, true, false, ◌⊎◌, List, ℤ, pos, length, get_or, set}
+use Rattle.std.specs.Prelude.{ℕ, ◌+◌, ◌^◌, ◌≤◌, ◌<◌, ◌≡◌, refl, Bool, true, false, List, ℤ, pos, length, get_or, set}
 use Rattle.std.proofs.Common.{sym, subst, ◌∙◌, ⊎_elim, arith, pow_pos, get_or-set_same, get_or-set_other, below_more, eqb-true}
 use Rattle.std.specs.Int.Bits.{bit_or, bit_xor}
 use Rattle.std.proofs.lemmas.Nat.{or_lt}

@@ -1,32 +1,29 @@
 -- A cumulative row as it stands in the model table, and the tables that its rule makes.
-use Rattle.std.specs.Prelude.{ℕ, ◌+◌, ◌*◌, ◌≤◌, ◌<◌, ◌≡◌, Bool, true, false, ◌||◌, ℤ, pos, ◌+ℤ◌, ◌-ℤ◌, length, ◌≤ℤ◌, ◌<ℤ◌}
+use Rattle.std.specs.Prelude.{ℕ, ◌+◌, ◌*◌, ◌≤◌, ◌<◌, ◌≡◌, Bool, true, false, ◌||◌, ℤ, pos, ◌+ℤ◌, ◌-ℤ◌, ◌≤ℤ◌, ◌<ℤ◌}
 use Rattle.std.proofs.Common.{sym, subst, ◌∙◌, add-one, arith}
 use Rattle.std.proofs.Math.Path.{ap}
 use mathlib.Core.List.{List, [], Memᴰ as In}
 use Rattle.std.proofs.Math.Option.{none, some}
 use Rattle.std.proofs.Math.ListN.{get_or}
-use Rattle.meaning.specs.Limits.{most_usage}
 use Rattle.words.specs.Int.{zz, sum, neg, abs_is}
 use Rattle.words.specs.Lists.{least}
 use Rattle.words.specs.ListFacts.{largest_above, or_left}
-use Rattle.meaning.specs.Model.{Activity}
 use Rattle.meaning.specs.Rule.{overloaded, squeezed}
 use Rattle.meaning.specs.Below.{some_below}
 use Rattle.meaning.proofs.Proved.Loads.{cumulative_is_squeezed}
-use Rattle.meaning.proofs.Proved.Positions.{squeezed_at, squeezed_at_some}
-use Rattle.reading.specs.At.{nat_at, each_at, length_each, get_or_each}
-use Rattle.model.specs.Rows.{activity_at, Counted, ActivitiesIn}
+use Rattle.meaning.proofs.Proved.Positions.{squeezed_at_some}
+use Rattle.reading.specs.At.{nat_at, length_each, get_or_each}
+use Rattle.model.specs.Rows.{activity_at}
 use Rattle.domain.specs.Box.{variables, values, values_rising}
 use Rattle.domain.specs.Sets.{first_from}
-use Rattle.rule_facts.specs.Ready.{Ready}
 use Rattle.sure_parts.specs.Table.{from_of, until_of, usage_of, most_load}
 use Rattle.cumulative.specs.Steps.{leap, Start}
 use Rattle.cumulative.proofs.Leaps.{Tables}
 use Rattle.cumulative.specs.Top.{top_of}
 use Rattle.cumulative.proofs.Top.{top_is, top_upto, top_overload, top_fits}
-use Rattle.sure_parts.specs.Fill.{Filled, Peaked, ActivityIn, one_activity, signless}
+use Rattle.sure_parts.specs.Fill.{ActivityIn, one_activity, signless}
 use Rattle.cumulative.proofs.Search.{Searching, search_start, search_free, search_beyond, search_none, search_on}
-use Rattle.cumulative.specs.Row.{CumulativeIn, Prepared, activities, nobody, squeezes}
+use Rattle.cumulative.specs.Row.{Prepared, activities, nobody, squeezes}
 
 module _ (m : List ℤ) (p : ℕ) where
   pub activity_is : (i : ℕ) → i < nat_at m p → get_or (activities m p) i nobody ≡ activity_at m (p + 2 + i * 3)

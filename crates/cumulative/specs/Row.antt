@@ -1,28 +1,15 @@
 -- A cumulative row as it stands in the model table, and the tables that its rule makes.
-use Rattle.std.specs.Prelude.{ℕ, ◌+◌, ◌*◌, ◌≤◌, ◌<◌, ◌≡◌, Bool, true, false, ◌||◌, ℤ, pos, ◌+ℤ◌, ◌-ℤ◌, length, ◌≤ℤ◌, ◌<ℤ◌}
-use Rattle.std.proofs.Common.{sym, subst, ◌∙◌, add-one, arith}
-use Rattle.std.proofs.Math.Path.{ap}
-use mathlib.Core.List.{List, [], Memᴰ as In}
-use Rattle.std.proofs.Math.Option.{none, some}
+use Rattle.std.specs.Prelude.{ℕ, ◌+◌, ◌<◌, Bool, ℤ, pos, length, ◌≤ℤ◌}
+use mathlib.Core.List.{List}
 use Rattle.std.proofs.Math.ListN.{get_or}
 use Rattle.meaning.specs.Limits.{most_usage}
-use Rattle.words.specs.Int.{zz, sum, neg, abs_is}
-use Rattle.words.specs.Lists.{least}
-use Rattle.words.specs.ListFacts.{largest_above, or_left}
 use Rattle.meaning.specs.Model.{Activity}
-use Rattle.meaning.specs.Rule.{overloaded, squeezed}
-use Rattle.meaning.specs.Below.{some_below}
-use Rattle.meaning.proofs.Proved.Loads.{cumulative_is_squeezed}
-use Rattle.meaning.proofs.Proved.Positions.{squeezed_at, squeezed_at_some}
-use Rattle.reading.specs.At.{nat_at, each_at, length_each, get_or_each}
+use Rattle.meaning.proofs.Proved.Positions.{squeezed_at}
+use Rattle.reading.specs.At.{nat_at, each_at}
 use Rattle.model.specs.Rows.{activity_at, Counted, ActivitiesIn}
-use Rattle.domain.specs.Box.{variables, values, values_rising}
-use Rattle.domain.specs.Sets.{first_from}
+use Rattle.domain.specs.Box.{variables, values}
 use Rattle.rule_facts.specs.Ready.{Ready}
-use Rattle.sure_parts.specs.Table.{from_of, until_of, usage_of, most_load}
-use Rattle.cumulative.specs.Steps.{leap, Start}
-use Rattle.cumulative.specs.Top.{top_of}
-use Rattle.sure_parts.specs.Fill.{Filled, Peaked, ActivityIn, one_activity, signless}
+use Rattle.sure_parts.specs.Fill.{Filled, Peaked}
 
 abbrev pub activities : List ℤ → ℕ → List Activity
 activities m p = each_at activity_at 3 (nat_at m p) m (p + 2)

@@ -1,6 +1,6 @@
 -- What the words of a fact tell of a conclusion that cites it, and how a cited fact is found.
 use Prim.Native.Nat.{ℕ, zero, suc, ◌≤◌, ◌<◌}
-use Rattle.std.specs.Prelude.{◌≡◌, refl, true, false, eqb, ℤ, length, take, get_or}
+use Rattle.std.specs.Prelude.{◌≡◌, refl, true, false, eqb, ℤ, length, get_or}
 use Rattle.std.proofs.Common.{sym, arith, ne_eqb}
 use mathlib.Core.List.{List, [], ◌∷◌, map}
 use Rattle.std.proofs.Math.Option.{some}

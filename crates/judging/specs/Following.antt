@@ -10,7 +10,6 @@ use Rattle.words.specs.Lists.{all}
 use Rattle.meaning.specs.Refusals.{hint_does_not_apply, hints_used_up}
 use Rattle.meaning.specs.Model.{Bounds}
 use Rattle.meaning.specs.Log.{Atom, Fact}
-use Rattle.meaning.specs.Box.{left}
 use Rattle.meaning.specs.Judge.{Verdict, passes, fails, premises_hold, unless_emptied, take_hint, follow_hints}
 use Rattle.domain.specs.Box.{values, stands}
 use Rattle.bridge.specs.Agrees.{Agrees}

@@ -1,5 +1,5 @@
 -- A fact's box in the table of cells, judged: against a row, and by the hints.
-use Rattle.std.specs.Prelude.{ℕ, suc, ◌+◌, ◌*◌, ◌≤◌, ◌<◌, ◌≡◌, Bool, true, false, List, ℤ, length, get_or}
+use Rattle.std.specs.Prelude.{ℕ, suc, ◌+◌, ◌*◌, ◌≤◌, ◌≡◌, Bool, true, false, List, ℤ, length}
 use Rattle.std.proofs.Common.{sym, ap, ap₂, subst, ◌∙◌, arith}
 use Rattle.words.specs.Lists.{All}
 use Rattle.meaning.specs.Limits.{most_premises, most_hints}

@@ -1,7 +1,10 @@
 // Lines of a text: a place in it, and the whole numbers that are written there.
 #![tactic(auto)]
 
-ghost use Rattle.std.specs.Prelude.{◌≤◌, length, ◌≡◌};
+ghost use Rattle.std.specs.Prelude.{◌≤◌, length, ◌≡◌, IfOk};
+
+use std::io;
+use std::io::Read;
 
 #[derive(Clone, Copy)]
 pub enum Word {
@@ -150,4 +153,19 @@ pub fn fill(text: &[u8], at: usize, words: &mut [i32], from: usize, upto: usize)
 // The number that a word is, 0 where it is negative.
 pub fn number(w: i32) -> usize {
     if w < 0 { 0 } else { words::index(w) }
+}
+
+// Reads until the room is full or the input ends, and says how much was read.
+pub fn filled<R: Read>(reader: &mut R, room: &mut [u8]) -> io::Result<usize>
+    ensures { IfOk result (λ n. n ≤ length room.new) }
+{
+    let mut n: usize = 0;
+    for _ in 0..room.len() {
+        let got = reader.read(&mut room[n..])?;
+        if got == 0 {
+            return Ok(n);
+        }
+        n += got;
+    }
+    Ok(n)
 }

@@ -19,7 +19,7 @@ use Rattle.words.specs.Lists.{keep, least, largest}
 use Rattle.words.specs.ListFacts.{tested, clash, not_not, same_test, and_true, and_both, or_none_lem, le_of, of_le, Rising, keep_rising, keep_in, in_keep, least_in, least_below, largest_in, largest_above}
 use Rattle.domain.specs.Sets.{rising_same, keep_agree, keep_every, without, without_rising, in_without, without_in, end_of, no_member, first_of, last_of, first_from, last_to, only_of, or_none, but, first_kept, last_kept, first_from_in, last_to_in, only_last}
 use Rattle.domain.specs.Sides.{from_on}
-use Rattle.domain.specs.Box.{variables, holes, low_place, high_place, hole_place, low_of, high_of, Formed, Tight, is_hole, values, values_known, values_beyond, values_rising, is_left, left_is, by_relation, stands, by_other, each_relation}
+use Rattle.domain.specs.Box.{variables, holes, low_place, high_place, hole_place, low_of, high_of, Formed, Tight, is_hole, values, values_known, values_beyond, values_rising, is_left, left_is, stands, by_other, each_relation}
 use Rattle.domain.specs.Box.Walk.{hole_step}
 use Rattle.domain.specs.Box.Same.{hole_same, values_same}
 use Rattle.domain.specs.Box.Answers.{first_is, last_is, ends_first, ends_last}

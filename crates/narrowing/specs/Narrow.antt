@@ -1,28 +1,14 @@
 -- What an atom does to a box: its variable keeps the values that meet it, every other variable keeps all, and the table stays a box.
-use Rattle.std.specs.Prelude.{◌≡◌, refl, ◌≢◌, Bool, true, not, ◌&&◌, ◌||◌, ℕ, suc, ◌+◌, ◌≤◌, ◌<◌, ltb, eqb, ◌+ℤ◌, ◌-ℤ◌, set, ◌≤ℤ◌, ◌<ℤ◌}
-use Rattle.std.proofs.Common.{sym, ◌∙◌, arith, ltb-true, ltb-false, eqb-true}
-use Rattle.std.proofs.Math.Path.{ap, ap₂, fun_ext}
-use Rattle.std.proofs.Math.Logic.{⊎_elim}
+use Rattle.std.specs.Prelude.{Bool, true, ◌&&◌, ℕ, ◌+◌, ◌≤◌, ◌<◌, ◌+ℤ◌, ◌-ℤ◌, set}
 use Rattle.std.proofs.Math.Bool.{false}
 use Rattle.std.proofs.Math.Option.{Option, none, some}
-use mathlib.Core.List.Memᴰ.{not-nil as not-in-nil}
-use mathlib.Core.List.{List, [], ◌∷◌, Memᴰ as In}
-use Rattle.std.proofs.lemmas.Bool.{not-true, eqb-false}
-use Rattle.std.proofs.Math.IntN.{ℤ, pos, nat_abs}
-use Rattle.std.proofs.Math.ListN.{length, get_or, length-set}
-use Rattle.std.proofs.Math.Seq.{get_or-set_same, get_or-set_other}
-use Rattle.std.proofs.lemmas.List.{set-get_or}
+use mathlib.Core.List.{List}
+use Rattle.std.proofs.Math.IntN.{ℤ, pos}
+use Rattle.std.proofs.Math.ListN.{length}
 use Rattle.std.specs.Int.Signed.{le_z, lt_z}
-use Rattle.words.specs.Int.{zz, sum, diff, ne_read, eq_z, eq_z_eq, eq_z_refl, eq_z_t, eq_z_f}
-use Rattle.words.specs.Words.{in_z}
-use Rattle.words.specs.Lists.{keep, least, largest}
-use Rattle.words.specs.ListFacts.{tested, clash, not_not, same_test, and_true, and_both, or_none_lem, le_of, of_le, Rising, keep_rising, keep_in, in_keep, least_in, least_below, largest_in, largest_above}
-use Rattle.domain.specs.Sets.{rising_same, keep_agree, keep_every, without, without_rising, in_without, without_in, end_of, no_member, first_of, last_of, first_from, last_to, only_of, or_none, but, first_kept, last_kept, first_from_in, last_to_in, only_last}
-use Rattle.domain.specs.Sides.{from_on}
-use Rattle.domain.specs.Box.{variables, holes, low_place, high_place, hole_place, low_of, high_of, Formed, Tight, is_hole, values, values_known, values_beyond, values_rising, is_left, left_is, by_relation, stands, by_other, each_relation}
-use Rattle.domain.specs.Box.Walk.{hole_step}
-use Rattle.domain.specs.Box.Same.{hole_same, values_same}
-use Rattle.domain.specs.Box.Answers.{first_is, last_is, ends_first, ends_last}
+use Rattle.words.specs.Lists.{keep}
+use Rattle.domain.specs.Sets.{first_of, last_of, first_from, last_to, but}
+use Rattle.domain.specs.Box.{variables, holes, low_place, high_place, hole_place, low_of, high_of, values, by_relation, stands}
 
 -- ---- a relation's negation
 -- an atom's negation: not "at most a" is "at least a + 1", and so on

@@ -1,5 +1,5 @@
 -- What the program asks of the tables that it reads again, and why it is so.
-use Rattle.std.specs.Prelude.{ℕ, ◌≤◌, ◌<◌, ◌≡◌, refl, List, ℤ, length, get_or}
+use Rattle.std.specs.Prelude.{ℕ, ◌≤◌, ◌<◌, ◌≡◌, List, ℤ, length, get_or}
 use Rattle.std.proofs.Common.{sym, ap, ◌∙◌}
 use Rattle.std.proofs.lemmas.List.Edits.{sets}
 use Rattle.meaning.specs.Limits.{most_rows}
@@ -34,5 +34,5 @@ pub rows_begin : {s : List ℤ} {starts : List ℕ} {c : ℕ} → GoodTable s st
 rows_begin {s} g e = let p = planned g.lent g.modelled g.room in rw (e, g.left) (p.noted, λ r k. row_begins s _ (p.row_in r k))
 
 -- an inference that was read makes a fact
-pub made_begins : {v c k : ℕ} {s : List ℤ} {p : ℕ} {a : Past} {n : ℕ} (t : Step) {r : RowNo} {f : FactPlace} → Skims (log.step v c k) s p a → a ≡ past.Next n → t ≡ placed s p → t ≡ step.Inference r f → MadeBegins s p
-made_begins {s = s} t h e i q = ((stepped h e).made (ap (λ x. turn (step_of s x)) (sym i ∙ q))).0.begins
+pub made_begins : (v c k : ℕ) {s : List ℤ} {p : ℕ} {a : Past} {n : ℕ} (t : Step) {r : RowNo} {f : FactPlace} → Skims (log.step v c k) s p a → a ≡ past.Next n → t ≡ placed s p → t ≡ step.Inference r f → MadeBegins s p
+made_begins v c k {s = s} t h e i q = ((stepped h e).made (ap (λ x. turn (step_of s x)) (sym i ∙ q))).0.begins

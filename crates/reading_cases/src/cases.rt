@@ -2,11 +2,12 @@
 use crate::show;
 use lines;
 use lines::number;
+use std::io;
 
 // A step: its position, its number, how many variables and rows there are, and the log's words.
-fn step(words: &[i32], again: bool) {
+fn step(rt: &impl Print, words: &[i32], again: bool) -> io::Result<()> {
     if words.len() < 4 {
-        return;
+        return Ok(());
     }
     let at = number(words[0]);
     let k = number(words[1]);
@@ -14,48 +15,49 @@ fn step(words: &[i32], again: bool) {
     let rows = number(words[3]);
     let log = &words[4..];
     if again {
-        show::again(log, at, k, v, rows);
+        show::again(rt, log, at, k, v, rows)
     } else {
-        show::step(log, at, k, v, rows);
+        show::step(rt, log, at, k, v, rows)
     }
 }
 
 // M: a model, S: a step, A: the fact of a step read again.
-fn asked(letter: u8, words: &[i32]) {
+fn asked(rt: &impl Print, letter: u8, words: &[i32]) -> io::Result<()> {
     if letter == 77 {
-        show::table(words);
+        show::table(rt, words)
     } else {
-        step(words, letter == 65);
+        step(rt, words, letter == 65)
     }
 }
 
-fn line(text: &[u8], from: usize) {
+fn line(rt: &impl Print, text: &[u8], from: usize) -> io::Result<()> {
     let colon = lines::find(text, from, 58);
     if text.len() <= colon {
-        return;
+        return Ok(());
     }
     if colon <= from {
-        return;
+        return Ok(());
     }
-    show::text(&text[from..colon]);
-    show::text(b": ");
+    show::text(rt, &text[from..colon])?;
+    show::text(rt, b": ")?;
     let mut words = [0i32; 400];
     let n = lines::fill(text, colon + 1, &mut words, 0, 400);
-    asked(text[from], &words[..n]);
-    show::text(b"\n");
+    asked(rt, text[from], &words[..n])?;
+    show::text(rt, b"\n")
 }
 
-pub fn all(text: &[u8]) {
+pub fn all(rt: &impl Print, text: &[u8]) -> io::Result<()> {
     let mut at = 0;
     while at < text.len() {
-        line(text, at);
+        line(rt, text, at)?;
         let end = lines::find(text, at, 10);
         if text.len() <= end {
-            return;
+            return Ok(());
         }
         if end < at {
-            return;
+            return Ok(());
         }
         at = end + 1;
     }
+    Ok(())
 }

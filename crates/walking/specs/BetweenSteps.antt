@@ -1,10 +1,10 @@
 -- What holds between two steps of the walk, and that each step keeps it or ends with the outcome told.
-use Rattle.std.specs.Prelude.{ℕ, zero, suc, ◌+◌, ◌*◌, ◌≤◌, ◌<◌, ◌≡◌, refl, Bool, true, false, ◌⊎◌, List, [], ◌∷◌, ◌++◌, ℤ, length, get_or, set, take, drop}
+use Rattle.std.specs.Prelude.{ℕ, suc, ◌+◌, ◌*◌, ◌≤◌, ◌<◌, ◌≡◌, refl, Bool, true, false, ◌⊎◌, List, [], ◌∷◌, ◌++◌, ℤ, length, get_or, set, take, drop}
 use Rattle.std.proofs.Common.{sym, ap, subst, ◌∙◌, inl, inr, arith, eq-or-lt_of_le, add-one, length-set, length-take, length-drop, length-append, take-append-drop, length-take-le, get_or-take, get_or-set_same, get_or-set_other, drop-set-lt, take-suc-set, drop-drop}
 use Rattle.meaning.specs.Limits.{most_variables}
 use Rattle.meaning.specs.Model.{Model}
 use Rattle.meaning.specs.Log.{Step}
-use Rattle.meaning.specs.Check.{Answer, Conclusion, Outcome, advance, counted, one_more, over}
+use Rattle.meaning.specs.Check.{advance, one_more, over}
 use Rattle.steps.specs.Facts.{made_fact, MadeFrom}
 use Rattle.walking.specs.Told.{told_answer, told_moved, say_by, answer_by, answer_told, ConclusionIn, NamesIn, answer_names, Tells}
 use Rattle.judging.specs.Cited.{Cited}

@@ -1,9 +1,9 @@
 -- The walk over the log from a step on, one step at a time, and the state that the places hold.
-use Rattle.std.specs.Prelude.{ℕ, suc, pred, ◌+◌, ◌≤◌, ◌<◌, ◌≡◌, refl, Bool, List, [], ◌∷◌, ◌++◌, map, length, take, set, ℤ}
-use Rattle.std.proofs.Common.{sym, ap, ◌∙◌, arith, le_refl, add-one, take-suc-set}
+use Rattle.std.specs.Prelude.{ℕ, suc, pred, ◌+◌, ◌<◌, ◌≡◌, refl, Bool, List, [], ◌∷◌, ◌++◌, map, length, take, set, ℤ}
+use Rattle.std.proofs.Common.{ap, ◌∙◌, arith, le_refl, add-one, take-suc-set}
 use Rattle.meaning.specs.Model.{Model}
 use Rattle.meaning.specs.Log.{Fact, Step}
-use Rattle.meaning.specs.Check.{Answer, Conclusion, Outcome, State, passed, counted, one_more, stops, goes, advance, onward, walk, start, over}
+use Rattle.meaning.specs.Check.{Answer, Conclusion, Outcome, State, passed, counted, one_more, stops, goes, advance, onward, walk}
 use Rattle.meaning.proofs.Proved.Walked.{walk_once, walked, walked_is}
 
 module _ (held : Step → Bool) (say : Conclusion → Answer) (m : Model) where

@@ -1,5 +1,5 @@
 -- One step of the walk, case by case: what `advance` gives where the log ran out, could not be read, failed its rule or passed.
-use Rattle.std.specs.Prelude.{ℕ, suc, ◌+◌, ◌≤◌, ◌<◌, ◌≡◌, refl, Bool, true, false, not, List, [], ◌∷◌, map, ltb, ℤ, pos, length, drop}
+use Rattle.std.specs.Prelude.{ℕ, ◌≤◌, ◌<◌, ◌≡◌, refl, Bool, true, false, not, List, [], map, ltb, ℤ, pos, length, drop}
 use Rattle.std.proofs.Common.{sym, ap, subst, ◌∙◌, ⊎_elim, arith, ltb-true, ltb-false, drop_of_length-le, drop-cons}
 use Rattle.words.specs.ListFacts.{tested, clash}
 use Rattle.meaning.specs.Limits.{most_hints}
@@ -9,7 +9,7 @@ use Rattle.meaning.specs.Outcomes.{Fault, box_empty, no_conflict, start_empty, h
 use Rattle.meaning.proofs.Proved.Faults.{fault}
 use Rattle.meaning.proofs.Proved.ReadStep.{step_left}
 use Rattle.reading.specs.At.{nat_at, length_each}
-use Rattle.meaning.specs.Read.{Got, got, refused}
+use Rattle.meaning.specs.Read.{got, refused}
 use Rattle.meaning.specs.Model.{Model}
 use Rattle.meaning.specs.Log as logs
 use Rattle.meaning.specs.Judge as judge

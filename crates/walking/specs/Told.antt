@@ -1,5 +1,5 @@
 -- What the walk's answers tell: document 01's numbers and values for each case.
-use Rattle.std.specs.Prelude.{ℕ, ◌+◌, ◌*◌, ◌<◌, ◌≤◌, ◌≡◌, refl, Bool, true, false, List, [], ◌∷◌, ◌++◌, ltb, ℤ, length, drop}
+use Rattle.std.specs.Prelude.{ℕ, ◌<◌, ◌≤◌, ◌≡◌, refl, Bool, true, false, List, [], ◌++◌, ltb, ℤ, length, drop}
 use Rattle.std.proofs.Common.{arith}
 use Rattle.meaning.specs.Limits.{most_variables}
 use Rattle.meaning.specs.Log.{Fact}

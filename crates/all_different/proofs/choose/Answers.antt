@@ -41,8 +41,8 @@ passed c e =
 pub loop-i-preserved : goal.loop-i-preserved
 loop-i-preserved c =
     elim c.if-holds.branch [
-      then-holds w ↦ rw (w.chosen-is, w.count-is) (taken (goal.at.loop-i-preserved c).After-holds w.if-holds.true)
-    | else-holds w ↦ rw (w.chosen-is, w.count-is) (passed (goal.at.loop-i-preserved c).After-holds w.if-holds.false)
+      | then-holds w ↦ rw (w.chosen-is, w.count-is) (taken (goal.at.loop-i-preserved c).After-holds w.if-holds.true)
+      | else-holds w ↦ rw (w.chosen-is, w.count-is) (passed (goal.at.loop-i-preserved c).After-holds w.if-holds.false)
     ]
 
 pub returns : goal.returns

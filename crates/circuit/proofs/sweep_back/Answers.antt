@@ -9,8 +9,8 @@ loop-i-preserved c =
     let v = c.loop-i.invariant.1 in
     let r = c.requires.2 c.loop-i.i (omega arith) in
     elim c.if-row-more-gt0.branch [
-      then-row-more-gt0 w ↦
-        let m = meeting _ _ _ r.below v.below w.if-row-more-gt0.true in
-        (omega arith, rw (w.more-is, w.with-more.ensures) (swept_with _ _ v m.0 (omega arith) m.1 m.3 m.2))
-    | else-row-more-gt0 w ↦ (omega arith, rw w.more-is (swept_without _ _ v (λ a e o. not_meeting _ _ a (omega (arith, w.if-row-more-gt0.false)) o e)))
+      | then-row-more-gt0 w ↦
+          let m = meeting _ _ _ r.below v.below w.if-row-more-gt0.true in
+          (omega arith, rw (w.more-is, w.with-more.ensures) (swept_with _ _ v m.0 (omega arith) m.1 m.3 m.2))
+      | else-row-more-gt0 w ↦ (omega arith, rw w.more-is (swept_without _ _ v (λ a e o. not_meeting _ _ a (omega (arith, w.if-row-more-gt0.false)) o e)))
     ]

@@ -3,7 +3,7 @@ use Rattle.std.proofs.Common.{rules, ◌≡◌, ◌<◌, ◌∙◌, ℕ, List, �
 use Rattle.std.specs.Int.{w32}
 use Rattle.std.proofs.lemmas.Int.{to_z-of_z}
 use Rattle.meaning.specs.Limits.{most_parts}
-use Rattle.words.specs.Int.{zz, fit, le32_t, le32_f, lt32_t, lt32_f}
+use Rattle.words.specs.Int.{zz, le32_t, lt32_t}
 use Rattle.sure_parts.specs.Table.{until_of, Sized}
 use Rattle.sure_parts.specs.Sizes.{near_fits}
 use Rattle.cumulative.specs.Steps.{over_by}

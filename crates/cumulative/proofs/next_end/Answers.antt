@@ -1,5 +1,5 @@
 -- u is the first end of the first k activities.
-use Rattle.std.proofs.Common.{rules, ◌≡◌, pos, ◌+ℤ◌, arith, sym, SFits}
+use Rattle.std.proofs.Common.{rules, pos, ◌+ℤ◌, arith, sym, SFits}
 use Rattle.std.specs.Int.{w32}
 use Rattle.std.proofs.lemmas.Int.{to_z-of_z}
 use Rattle.words.specs.Int.{zz, fit}

@@ -1,5 +1,5 @@
 -- Both sums are words.
-use Rattle.std.proofs.Common.{rules, ◌≡◌, pos, ◌+ℤ◌, ◌≤ℤ◌, arith, SFits}
+use Rattle.std.proofs.Common.{rules, ◌≡◌, pos, ◌≤ℤ◌, arith, SFits}
 use Rattle.std.specs.Int.{w32}
 use Rattle.std.proofs.lemmas.Int.{to_z-of_z}
 use Rattle.meaning.specs.Limits.{most_usage}

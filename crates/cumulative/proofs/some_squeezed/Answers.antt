@@ -1,5 +1,5 @@
 -- None of the first i activities is squeezed.
-use Rattle.std.proofs.Common.{rules, ◌+◌, ◌≤◌, ◌<◌, ◌≡◌, ◌∙◌, ℕ, List, ℤ, false, get_or, pos, ◌-ℤ◌, ◌≤ℤ◌, ◌<ℤ◌, arith, sym, SFits}
+use Rattle.std.proofs.Common.{rules, ◌+◌, ◌<◌, ◌≡◌, ◌∙◌, get_or, pos, ◌-ℤ◌, ◌≤ℤ◌, ◌<ℤ◌, arith, sym, SFits}
 use Rattle.std.specs.Int.{w32}
 use Rattle.std.proofs.lemmas.Int.{to_z-of_z}
 use Rattle.words.specs.Int.{zz, fit, lt32_f}
@@ -57,12 +57,11 @@ loop-i-preserved c =
     let few : c.loop-i.i < nat_at c.args.model.now c.args.p = rw (← c.number_at-n.ensures) c.loop-i-test.true in
     let t = squeezes (values c.args.cells.now) c.args.model.now c.args.p in
     -- an activity that fits beside all
-    let beside = λ (h : u ≤ℤ (cap -ℤ c.highest-top.result)). row_fits _ _ _ _ _ c.requires c.loop-i.i few (rw (most top) at h) in
-    (
+    let beside = λ (h : u ≤ℤ (cap -ℤ c.highest-top.result)). row_fits _ _ _ _ _ c.requires c.loop-i.i few (rw (most top) at h) in (
       omega arith,
       none_more t c.loop-i.i c.loop-i.invariant.1
-      (elim c.if-room-usage.branch [
-        then-room-usage+else-squeezed_at w ↦ sym w.squeezed_at.ensures ∙ w.if-squeezed_at.false
-      | else-room-usage w ↦ beside (not_below _ _ (lt32_f _ _ r g (simp (to_z-of_z w32 cap f, to_z-of_z w32 c.highest-top.result m) at w.if-room-usage.false)))
-      ]),
+          (elim c.if-room-usage.branch [
+            | then-room-usage+else-squeezed_at w ↦ sym w.squeezed_at.ensures ∙ w.if-squeezed_at.false
+            | else-room-usage w ↦ beside (not_below _ _ (lt32_f _ _ r g (simp (to_z-of_z w32 cap f, to_z-of_z w32 c.highest-top.result m) at w.if-room-usage.false)))
+          ]),
     )

@@ -19,8 +19,8 @@ loop-k-preserved c =
     let flag : get_or flags k false ≡ not c.same_row.result = flag_is c.requires.before c.requires.after k (omega arith) ∙ ap not (sym c.same_row.ensures) in (
       omega arith,
       elim c.if-not-same_row.branch [
-        then-not-same_row w ↦ w.set-is ∙ ap (λ m. bit_or m ((1 * 2 ^ k) % 2 ^ 64)) c.loop-k.invariant.1 ∙ row_put flags k inside (omega (arith, c.requires.before.few_rows)) (flag ∙ ap not w.if-not-same_row.true)
-      | else-not-same_row w ↦ w.set-is ∙ c.loop-k.invariant.1 ∙ row_left flags k inside (flag ∙ ap not w.if-not-same_row.false)
+        | then-not-same_row w ↦ w.set-is ∙ ap (λ m. bit_or m ((1 * 2 ^ k) % 2 ^ 64)) c.loop-k.invariant.1 ∙ row_put flags k inside (omega (arith, c.requires.before.few_rows)) (flag ∙ ap not w.if-not-same_row.true)
+        | else-not-same_row w ↦ w.set-is ∙ c.loop-k.invariant.1 ∙ row_left flags k inside (flag ∙ ap not w.if-not-same_row.false)
       ],
     )
 

@@ -1,5 +1,5 @@
 -- The largest start left, the end of the sure part and the usage are put into the table.
-use Rattle.std.proofs.Common.{rules, ◌+◌, ◌≡◌, ◌∙◌, ap, get_or, ℤ, pos, ◌+ℤ◌, arith, SFits}
+use Rattle.std.proofs.Common.{rules, ◌+◌, ◌≡◌, ◌∙◌, ap, get_or, pos, ◌+ℤ◌, arith, SFits}
 use Rattle.std.specs.Int.{w32}
 use Rattle.std.proofs.lemmas.Int.{to_z-of_z}
 use Rattle.words.specs.Int.{zz, fit}

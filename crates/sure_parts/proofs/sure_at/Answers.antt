@@ -3,7 +3,7 @@ use Rattle.std.proofs.Common.{ℕ, ◌+◌, ◌≡◌, ◌≤◌, List, ℤ, ◌
 use Rattle.std.specs.Int.{w32}
 use Rattle.std.proofs.lemmas.Int.{to_z-of_z}
 use Rattle.meaning.specs.Limits.{most_parts}
-use Rattle.words.specs.Int.{zz, fit, sum}
+use Rattle.words.specs.Int.{zz, fit}
 use Rattle.sure_parts.specs.Table.{used_at, load, Sized}
 use Rattle.sure_parts.specs.Sizes.{load_none, load_more, load_small}
 use Rattle.sure_parts.proofs.sure_at.Goals as goal

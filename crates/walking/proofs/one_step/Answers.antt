@@ -1,8 +1,6 @@
 -- Each return is a case of OneStep: the step could not be read; it failed its rule; it passed.
-use Rattle.std.proofs.Common.{◌≡◌, ℕ, ◌≤◌, ◌<◌, Bool, false, not, List, ℤ, length, map, sym, ap, subst, ◌∙◌, arith}
+use Rattle.std.proofs.Common.{ℕ, not, length, map, sym, ap, subst, ◌∙◌, arith}
 use Rattle.meaning.specs.Limits.{most_rows}
-use Rattle.meaning.specs.Model.{Model}
-use Rattle.meaning.specs.Check.{verdict_of}
 use Rattle.steps.specs.Facts.{made_fact}
 use Rattle.steps.specs.Told.{step_of}
 use Rattle.steps.specs.Laws.{PartsIn, stepped, unread}
@@ -54,8 +52,8 @@ returns-then-not-held-clause-moved c =
     let g = reach m p.variables p.rows (omega (arith, c.requires.3)) c.if-at-log.false (stepped c.read_step-g.ensures c.in-Next.is) c.step_at-step.ensures in
     rw c.after_passing.ensures
     (λ j.
-        has_passed (held_by a.task.whole a.task.changed) (say_by a.task.whole) m l (state_at (made_fact l) a.passed.now j) (length a.passed.now) a.at g.below t _ g.reads
-        h.result (held_any a.task.whole a.task.changed l t ∙ sym h.ensures) g.made (waved_on m (map (made_fact l) a.passed.now) (step_of l t) h.result (ap not c.if-not-held.true)))
+    has_passed (held_by a.task.whole a.task.changed) (say_by a.task.whole) m l (state_at (made_fact l) a.passed.now j) (length a.passed.now) a.at g.below t _ g.reads
+    h.result (held_any a.task.whole a.task.changed l t ∙ sym h.ensures) g.made (waved_on m (map (made_fact l) a.passed.now) (step_of l t) h.result (ap not c.if-not-held.true)))
 
 pub returns-then-not-held-clause-leads : goal.returns-then-not-held-clause-leads
 returns-then-not-held-clause-leads c =
@@ -89,8 +87,8 @@ returns-in-Passes-clause-moved c =
     let v = judged_is m (made_fact l) a.passed.now (step_of l t) h.result (ap not c.if-not-held.false) c.judge-verdict.ensures in
     rw c.after_passing-in-Passes.ensures
     (λ j.
-        has_passed (held_by a.task.whole a.task.changed) (say_by a.task.whole) m l (state_at (made_fact l) a.passed.now j) (length a.passed.now) a.at g.below t _ g.reads
-        h.result (held_any a.task.whole a.task.changed l t ∙ sym h.ensures) g.made (sym v ∙ ap told_verdict c.in-Passes.is))
+    has_passed (held_by a.task.whole a.task.changed) (say_by a.task.whole) m l (state_at (made_fact l) a.passed.now j) (length a.passed.now) a.at g.below t _ g.reads
+    h.result (held_any a.task.whole a.task.changed l t ∙ sym h.ensures) g.made (sym v ∙ ap told_verdict c.in-Passes.is))
 
 pub returns-in-Passes-clause-leads : goal.returns-in-Passes-clause-leads
 returns-in-Passes-clause-leads c =
@@ -109,8 +107,8 @@ returns-in-Fails-clause-moved c =
     let g = reach m p.variables p.rows (omega (arith, c.requires.3)) c.if-at-log.false (stepped c.read_step-g.ensures c.in-Next.is) c.step_at-step.ensures in
     let e = sym (judged_is m (made_fact l) a.passed.now (step_of l t) h.result (ap not c.if-not-held.false) c.judge-verdict.ensures) ∙ ap told_verdict c.in-Fails.is in
     λ j.
-        has_failed (held_by a.task.whole a.task.changed) (say_by a.task.whole) m l (state_at (made_fact l) a.passed.now j) (length a.passed.now) a.at g.below t _ g.reads
-        h.result (held_any a.task.whole a.task.changed l t ∙ sym h.ensures) e
+    has_failed (held_by a.task.whole a.task.changed) (say_by a.task.whole) m l (state_at (made_fact l) a.passed.now j) (length a.passed.now) a.at g.below t _ g.reads
+    h.result (held_any a.task.whole a.task.changed l t ∙ sym h.ensures) e
 
 pub returns-in-Fails-clause-leads : goal.returns-in-Fails-clause-leads
 returns-in-Fails-clause-leads c =
