@@ -1,6 +1,6 @@
 -- What `check` and `recheck` promise, and that each way they end keeps the promise.
-use Rattle.std.specs.Prelude.{ℕ, suc, ◌+◌, ◌≤◌, ◌<◌, ◌≡◌, refl, Bool, true, false, List, [], ◌∷◌, ◌++◌, ltb, ℤ, length, drop, get_or}
-use Rattle.std.proofs.Common.{sym, ap, ap₂, subst, ◌∙◌, arith}
+use Rattle.std.specs.Prelude.{ℕ, ◌<◌, ◌≡◌, refl, Bool, true, false, List, ◌++◌, ℤ, length, drop, get_or}
+use Rattle.std.proofs.Common.{sym, ap, ap₂, ◌∙◌, arith}
 use Rattle.std.proofs.Math.Path.{fun_ext}
 use Rattle.std.specs.Int.Count as count
 use Rattle.meaning.specs.Refusals.{first_of_steps}
@@ -15,7 +15,7 @@ use Rattle.meaning.proofs.Proved.Told.{over_told}
 use Rattle.model.specs.Planned.{model_of}
 use Rattle.row_set.specs.Bits.{bit_at}
 use Rattle.amend.specs.Changed.{Answered}
-use Rattle.amend.specs.Only.{Otherwise, refused, unfit, whole_told, Partly, partly_told}
+use Rattle.amend.specs.Only.{Otherwise, refused, unfit, whole_told, partly_told}
 use Rattle.walking.specs.Told.{told_answer, held_by, say_by, NamesIn, Tells}
 use Rattle.checker.specs.Entry.{RefusedAt, OpenTo}
 use Rattle.walking.specs.declared.Answer.{Answer}

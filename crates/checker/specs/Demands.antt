@@ -1,6 +1,6 @@
 -- The three demands, as theorems about what `check` and `recheck` promise, for any tables: whoever holds their contracts holds these.
 -- `lent` are the places before the call, `left` those after it. What the records say stands in Written. The theorems ask for `Gives` alone, which both promises give.
-use Rattle.std.specs.Prelude.{ℕ, ◌≤◌, ◌<◌, ◌≡◌, refl, Bool, true, ◌↔◌, List, [], ◌∷◌, ◌++◌, ℤ, length, drop, get_or}
+use Rattle.std.specs.Prelude.{ℕ, ◌≤◌, ◌<◌, ◌≡◌, refl, Bool, true, ◌↔◌, List, [], ◌++◌, ℤ, length, drop, get_or}
 use Rattle.std.proofs.Common.{sym, ap, subst, subst₂, ◌∙◌, arith}
 use Rattle.meaning.specs.Refusals.{first_of_steps}
 use Rattle.meaning.specs.Limits.{most_model_words}
@@ -14,7 +14,7 @@ use Rattle.meaning.specs.Outcomes.{OnShut, Listed}
 use Rattle.meaning.proofs.Proved.{proved}
 use Rattle.walking.specs.Told.{told_answer}
 use Rattle.checker.specs.Checks.{Checks, Rechecks}
-use Rattle.checker.specs.Written.{Gives, Earned, Written, Judges, WrittenAgain, RefusedAfter, ConcludedAfter}
+use Rattle.checker.specs.Written.{Gives, Earned, Written, WrittenAgain, RefusedAfter, ConcludedAfter}
 use Rattle.checker.specs.WrittenSo as so
 use Rattle.walking.specs.declared.Answer.{Answer as Told}
 use Rattle.checker.specs.declared.Rechecked.{Rechecked}

@@ -1,5 +1,5 @@
 -- What stands before the walk: the sizes in document 01's order, then the model.
-use Rattle.std.specs.Prelude.{ℕ, ◌≤◌, ◌<◌, ◌≡◌, refl, Bool, true, false, List, ltb, ℤ, length}
+use Rattle.std.specs.Prelude.{ℕ, ◌≤◌, ◌≡◌, refl, Bool, true, false, List, ltb, ℤ, length}
 use Rattle.std.proofs.Common.{sym, ap, subst, ◌∙◌, arith, ltb-false}
 use Rattle.meaning.specs.Limits.{most_model_words, most_log_words, fewest_places, most_rows}
 use Rattle.meaning.specs.Refusals.{model_too_long, log_too_long, places_too_few, words_after_model}

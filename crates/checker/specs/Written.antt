@@ -1,5 +1,5 @@
 -- What the places hold afterwards, said of any tables: which steps passed and where each begins. Definitions only; WrittenSo has the proofs.
-use Rattle.std.specs.Prelude.{ℕ, suc, ◌<◌, ◌≤◌, ◌≡◌, Bool, true, List, [], ◌++◌, ℤ, length, drop, get_or}
+use Rattle.std.specs.Prelude.{ℕ, suc, ◌<◌, ◌≡◌, Bool, true, List, [], ◌++◌, ℤ, length, drop, get_or}
 use Rattle.meaning.specs.Refusals.{first_of_steps}
 use Rattle.meaning.specs.Read.{got}
 use Rattle.meaning.specs.Model.{Model}

@@ -9,8 +9,7 @@ use Rattle.meaning.specs.Read.{got}
 use Rattle.meaning.specs.Model.{Model}
 use Rattle.meaning.specs.Log.{Fact, Step}
 use Rattle.meaning.specs.Judge.{passes}
-use Rattle.meaning.specs.Check.{Answer, shut, accepted, carried, Conclusion, nothing, Outcome, guarded, over, turn, makes, concludes, verdict_of, read_step, check, recheck, Good, good, bad, read_good, recheck_of, rechecked, fits_old, changes, cites_changed}
-use Rattle.meaning.specs.Claims.{Admitted}
+use Rattle.meaning.specs.Check.{Answer, shut, accepted, carried, Conclusion, nothing, Outcome, guarded, over, verdict_of, read_step, check, recheck, Good, good, bad, read_good, recheck_of, rechecked, fits_old, changes, cites_changed}
 use Rattle.meaning.specs.Outcomes.{Told, ran_out, broke_off, word_off, faulty, trailing, concluded, went, Wholly, old_bad, new_bad, unlike}
 use Rattle.meaning.specs.Ranges.{step_table}
 use Rattle.meaning.proofs.Proved.{proved}

@@ -1,6 +1,6 @@
 -- What an engine is told, in its own words, and that the promises of the C interface say it. Nothing is asked of a table.
-use Rattle.std.specs.Prelude.{ℕ, ◌≤◌, ◌<◌, ◌≡◌, refl, Bool, ◌↔◌, ◌⊎◌, List, [], ℤ, length, get_or}
-use Rattle.std.proofs.Common.{sym, ap, subst, ◌∙◌, inl, inr, arith}
+use Rattle.std.specs.Prelude.{ℕ, ◌≤◌, ◌≡◌, Bool, ◌↔◌, ◌⊎◌, List, [], ℤ, length, get_or}
+use Rattle.std.proofs.Common.{sym, subst, inl, inr, arith}
 use Rattle.meaning.specs.Model.{Model}
 use Rattle.meaning.specs.Log.{Step}
 use Rattle.meaning.specs.Judge.{row_at}
