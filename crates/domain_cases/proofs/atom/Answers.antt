@@ -1,6 +1,7 @@
 use Rattle.std.proofs.Common.{◌<◌}
 use Rattle.domain.specs.Box.{variables}
-use Rattle.narrowing.specs.Narrow.{Room, narrowed_formed}
+use Rattle.narrowing.specs.Narrow.{Room}
+use Rattle.narrowing.proofs.NarrowFacts.{narrowed_formed}
 use Rattle.domain_cases.proofs.atom.Goals as goal
 
 pub returns-then-in_range : goal.returns-then-in_range
