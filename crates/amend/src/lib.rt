@@ -29,7 +29,8 @@ pub fn compare(old: &[i32], new: &[i32], starts: &[u32], variables: usize, rows:
         whole: true,
         changed: 0,
     };
-    if old.len() > MOST_MODEL_WORDS {
+    let too_long = old.len() > MOST_MODEL_WORDS;
+    if too_long {
         return whole;
     }
     let mut olds = [0u32; MOST_ROWS];

@@ -91,7 +91,8 @@ fn sweep_back(links: &[u32; MOST_PARTS], n: usize, set: u32) -> u32
     let mut i: usize = 0;
     while i < n {
         let row = links[i];
-        if 0 < row & more {
+        let joined = 0 < row & more;
+        if joined {
             more = with(more, i);
         }
         i += 1;

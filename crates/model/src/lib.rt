@@ -43,7 +43,8 @@ pub fn read_model(s: &[i32], starts: &mut [u32]) -> Past
     let Past::Next(end) = p else {
         return p;
     };
-    if end < s.len() {
+    let more = end < s.len();
+    if more {
         return Past::Refused(WORDS_AFTER_MODEL, end);
     }
     p

@@ -140,7 +140,8 @@ fn one_step(
     };
     let step = steps::step_at(log, at);
     let held = is_held(task, step);
-    if !held {
+    let waved = !held;
+    if waved {
         return after_passing(step, held, next, log.len());
     }
     let verdict = judging::judge(model, row_starts, task.variables, log, passed, step, cells);

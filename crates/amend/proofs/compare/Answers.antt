@@ -14,7 +14,7 @@ sized {old = old} l {v = v} {rows = rows} e short room h p q = subst (λ m. Know
 -- as many as the new one
 same_size : (c : Else-rows_of-rows) → Known c.args.old.now c.read_model-read.new.starts c.args.variables c.args.rows
 same_size c =
-    sized _ c.read_model-read.ensures.noted (omega (arith, c.if-old-gt-MOST_MODEL_WORDS.false)) (omega arith) (modelled c.read_model-read.ensures.read c.in-Next.is)
+    sized _ c.read_model-read.ensures.noted (omega (arith, c.if-too_long.false)) (omega arith) (modelled c.read_model-read.ensures.read c.in-Next.is)
     (sym c.if-variables_of-variables.false ∙ c.variables_of.ensures)
     (sym c.if-rows_of-rows.false ∙ c.rows_of.ensures)
 
@@ -26,7 +26,7 @@ rows_of-requires c = modelled c.read_model-read.ensures.read c.in-Next.is
 
 pub returns-then-variables_of-variables : goal.returns-then-variables_of-variables
 returns-then-variables_of-variables c =
-    let k = sized _ c.read_model-read.ensures.noted (omega (arith, c.if-old-gt-MOST_MODEL_WORDS.false)) (omega arith) (modelled c.read_model-read.ensures.read c.in-Next.is) c.variables_of.ensures refl in
+    let k = sized _ c.read_model-read.ensures.noted (omega (arith, c.if-too_long.false)) (omega arith) (modelled c.read_model-read.ensures.read c.in-Next.is) c.variables_of.ensures refl in
     other_variables k c.requires c.if-variables_of-variables.true
 
 pub same_words-requires : goal.same_words-requires

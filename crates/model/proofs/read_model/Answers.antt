@@ -15,13 +15,13 @@ returns-in_default-p-clause-noted c =
     let h = headed c.number-g.ensures c.in-Next.is c.number_at-v.ensures c.pairs-b.ensures c.in-Next-b.is c.number-h.ensures c.in-Next-h.is c.number_at-c.ensures in
     rw h.starts c.rows-p.ensures.noted
 
-pub returns-then-end-s-clause-read : goal.returns-then-end-s-clause-read
-returns-then-end-s-clause-read c =
+pub returns-then-more-clause-read : goal.returns-then-more-clause-read
+returns-then-more-clause-read c =
     let h = headed c.number-g.ensures c.in-Next.is c.number_at-v.ensures c.pairs-b.ensures c.in-Next-b.is c.number-h.ensures c.in-Next-h.is c.number_at-c.ensures in
-    too_long h c.rows-p.ensures.read c.in-Next-p.is c.if-end-s.true
+    too_long h c.rows-p.ensures.read c.in-Next-p.is c.if-more.true
 
-pub returns-then-end-s-clause-noted : goal.returns-then-end-s-clause-noted
-returns-then-end-s-clause-noted c =
+pub returns-then-more-clause-noted : goal.returns-then-more-clause-noted
+returns-then-more-clause-noted c =
     let h = headed c.number-g.ensures c.in-Next.is c.number_at-v.ensures c.pairs-b.ensures c.in-Next-b.is c.number-h.ensures c.in-Next-h.is c.number_at-c.ensures in
     rw h.starts c.rows-p.ensures.noted
 

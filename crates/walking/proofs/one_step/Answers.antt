@@ -41,8 +41,8 @@ is_held-held-requires c =
     row_below a.task.variables a.task.rows (length a.passed.now) a.log.now c.step_at-step.result most_rows p.few_rows g.parts
 
 -- a step that is not held passes
-pub returns-then-not-held-clause-moved : goal.returns-then-not-held-clause-moved
-returns-then-not-held-clause-moved c =
+pub returns-then-waved-clause-moved : goal.returns-then-waved-clause-moved
+returns-then-waved-clause-moved c =
     let a = c.args in
     let p = c.requires.0 in
     let l = a.log.now in
@@ -53,10 +53,10 @@ returns-then-not-held-clause-moved c =
     rw c.after_passing.ensures
     (λ j.
     has_passed (held_by a.task.whole a.task.changed) (say_by a.task.whole) m l (state_at (made_fact l) a.passed.now j) (length a.passed.now) a.at g.below t _ g.reads
-    h.result (held_any a.task.whole a.task.changed l t ∙ sym h.ensures) g.made (waved_on m (map (made_fact l) a.passed.now) (step_of l t) h.result (ap not c.if-not-held.true)))
+    h.result (held_any a.task.whole a.task.changed l t ∙ sym h.ensures) g.made (waved_on m (map (made_fact l) a.passed.now) (step_of l t) h.result (ap not c.if-waved.true)))
 
-pub returns-then-not-held-clause-leads : goal.returns-then-not-held-clause-leads
-returns-then-not-held-clause-leads c =
+pub returns-then-waved-clause-leads : goal.returns-then-waved-clause-leads
+returns-then-waved-clause-leads c =
     let p = c.requires.0 in
     let g = reach (model_of c.args.model.now) p.variables p.rows (omega (arith, c.requires.3)) c.if-at-log.false (stepped c.read_step-g.ensures c.in-Next.is) c.step_at-step.ensures in
     rw c.after_passing.ensures (g.leads c.is_held-held.result)
@@ -84,7 +84,7 @@ returns-in-Passes-clause-moved c =
     let h = c.is_held-held in
     let t = c.step_at-step.result in
     let g = reach m p.variables p.rows (omega (arith, c.requires.3)) c.if-at-log.false (stepped c.read_step-g.ensures c.in-Next.is) c.step_at-step.ensures in
-    let v = judged_is m (made_fact l) a.passed.now (step_of l t) h.result (ap not c.if-not-held.false) c.judge-verdict.ensures in
+    let v = judged_is m (made_fact l) a.passed.now (step_of l t) h.result (ap not c.if-waved.false) c.judge-verdict.ensures in
     rw c.after_passing-in-Passes.ensures
     (λ j.
     has_passed (held_by a.task.whole a.task.changed) (say_by a.task.whole) m l (state_at (made_fact l) a.passed.now j) (length a.passed.now) a.at g.below t _ g.reads
@@ -105,7 +105,7 @@ returns-in-Fails-clause-moved c =
     let h = c.is_held-held in
     let t = c.step_at-step.result in
     let g = reach m p.variables p.rows (omega (arith, c.requires.3)) c.if-at-log.false (stepped c.read_step-g.ensures c.in-Next.is) c.step_at-step.ensures in
-    let e = sym (judged_is m (made_fact l) a.passed.now (step_of l t) h.result (ap not c.if-not-held.false) c.judge-verdict.ensures) ∙ ap told_verdict c.in-Fails.is in
+    let e = sym (judged_is m (made_fact l) a.passed.now (step_of l t) h.result (ap not c.if-waved.false) c.judge-verdict.ensures) ∙ ap told_verdict c.in-Fails.is in
     λ j.
     has_failed (held_by a.task.whole a.task.changed) (say_by a.task.whole) m l (state_at (made_fact l) a.passed.now j) (length a.passed.now) a.at g.below t _ g.reads
     h.result (held_any a.task.whole a.task.changed l t ∙ sym h.ensures) e
@@ -119,6 +119,6 @@ returns-in-Fails-clause-leads c =
     let h = c.is_held-held in
     let t = c.step_at-step.result in
     let g = reach m p.variables p.rows (omega (arith, c.requires.3)) c.if-at-log.false (stepped c.read_step-g.ensures c.in-Next.is) c.step_at-step.ensures in
-    let e = sym (judged_is m (made_fact l) a.passed.now (step_of l t) h.result (ap not c.if-not-held.false) c.judge-verdict.ensures) ∙ ap told_verdict c.in-Fails.is in
+    let e = sym (judged_is m (made_fact l) a.passed.now (step_of l t) h.result (ap not c.if-waved.false) c.judge-verdict.ensures) ∙ ap told_verdict c.in-Fails.is in
     let few = held_fails g h.result _ e in
     omega arith
