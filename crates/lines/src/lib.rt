@@ -1,7 +1,8 @@
 // Lines of a text: a place in it, and the whole numbers that are written there.
 #![tactic(auto)]
 
-ghost use Rattle.std.specs.Prelude.{◌≤◌, length, ◌≡◌, IfOk};
+ghost use Rattle.std.specs.Io.KnownBytes.{Consumes, IsAtEnd};
+ghost use Rattle.std.specs.Prelude.{◌≤◌, ◌<◌, length, ◌≡◌, IfOk, take};
 
 use std::io;
 use std::io::Read;
@@ -155,14 +156,18 @@ pub fn number(w: i32) -> usize {
     if w < 0 { 0 } else { words::index(w) }
 }
 
-// Reads until the room is full or the input ends, and says how much was read.
+// Reads until the room is full or the input ends, and says how much was read: so much of the room then is what the reader had next. A read
+// that fails ends it with the error.
 pub fn filled<R: Read>(reader: &mut R, room: &mut [u8]) -> io::Result<usize>
-    ensures { IfOk result (λ n. n ≤ length room.new) }
+    ensures within { IfOk result (λ n. n ≤ length room.new) }
+    ensures bytes { IfOk result (λ n. Consumes (R.remaining reader.old) (R.remaining reader.new) (take n room.new)) }
+    ensures end { IfOk result (λ n. n < length room.new → IsAtEnd (R.remaining reader.new)) }
 {
     let mut n: usize = 0;
-    for _ in 0..room.len() {
+    while n < room.len() {
         let got = reader.read(&mut room[n..])?;
-        if got == 0 {
+        let ended = got == 0;
+        if ended {
             return Ok(n);
         }
         n += got;
