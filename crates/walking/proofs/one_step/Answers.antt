@@ -8,8 +8,9 @@ use Rattle.walking.specs.Told.{held_by, say_by}
 use Rattle.judging.specs.Told.{told_verdict}
 use Rattle.model.specs.Planned.{model_of, Planned}
 use Rattle.walking.specs.FromStep.{state_at}
-use Rattle.walking.specs.OneStep.{not_read, has_failed, has_passed, held_fails, reach, refused_so, row_below, held_any, judged_is, waved_on}
+use Rattle.walking.specs.OneStep.{not_read, has_failed, has_passed, held_fails, reach, Reached, refused_so, row_below, held_any, judged_is, waved_on}
 use Rattle.walking.proofs.one_step.Goals as goal
+use Rattle.walking.proofs.one_step.Goals.{After-step_at-step}
 
 -- ---- a step that could not be read
 
@@ -30,6 +31,12 @@ returns-in_default-clause-leads c =
 
 -- ---- the step was read over
 
+-- what is known of it from then on
+read_well : (c : After-step_at-step) → Reached (model_of c.args.model.now) c.args.task.variables c.args.task.rows c.args.log.now (length c.args.passed.now) c.args.at c.step_at-step.result c.in-Next.next
+read_well c =
+    let p = c.requires.0 in
+    reach (model_of c.args.model.now) p.variables p.rows (omega (arith, c.requires.3)) c.if-at-log.false (stepped c.read_step-g.ensures c.in-Next.is) c.step_at-step.ensures
+
 pub step_at-step-requires : goal.step_at-step-requires
 step_at-step-requires c = (stepped c.read_step-g.ensures c.in-Next.is).stands
 
@@ -37,19 +44,18 @@ pub is_held-held-requires : goal.is_held-held-requires
 is_held-held-requires c =
     let a = c.args in
     let p = c.requires.0 in
-    let g = reach (model_of a.model.now) p.variables p.rows (omega (arith, c.requires.3)) c.if-at-log.false (stepped c.read_step-g.ensures c.in-Next.is) c.step_at-step.ensures in
+    let g = read_well (goal.at.is_held-held-requires c).After-step_at-step in
     row_below a.task.variables a.task.rows (length a.passed.now) a.log.now c.step_at-step.result most_rows p.few_rows g.parts
 
 -- a step that is not held passes
 pub returns-then-waved-clause-moved : goal.returns-then-waved-clause-moved
 returns-then-waved-clause-moved c =
     let a = c.args in
-    let p = c.requires.0 in
     let l = a.log.now in
     let m = model_of a.model.now in
     let h = c.is_held-held in
     let t = c.step_at-step.result in
-    let g = reach m p.variables p.rows (omega (arith, c.requires.3)) c.if-at-log.false (stepped c.read_step-g.ensures c.in-Next.is) c.step_at-step.ensures in
+    let g = read_well (goal.at.returns-then-waved-clause-moved c).After-step_at-step in
     rw c.after_passing.ensures
     (λ j.
     has_passed (held_by a.task.whole a.task.changed) (say_by a.task.whole) m l (state_at (made_fact l) a.passed.now j) (length a.passed.now) a.at g.below t _ g.reads
@@ -57,8 +63,7 @@ returns-then-waved-clause-moved c =
 
 pub returns-then-waved-clause-leads : goal.returns-then-waved-clause-leads
 returns-then-waved-clause-leads c =
-    let p = c.requires.0 in
-    let g = reach (model_of c.args.model.now) p.variables p.rows (omega (arith, c.requires.3)) c.if-at-log.false (stepped c.read_step-g.ensures c.in-Next.is) c.step_at-step.ensures in
+    let g = read_well (goal.at.returns-then-waved-clause-leads c).After-step_at-step in
     rw c.after_passing.ensures (g.leads c.is_held-held.result)
 
 pub judge-verdict-requires : goal.judge-verdict-requires
@@ -66,7 +71,7 @@ judge-verdict-requires c =
     let a = c.args in
     let p = c.requires.0 in
     let t = c.step_at-step.result in
-    let g = reach (model_of a.model.now) p.variables p.rows (omega (arith, c.requires.3)) c.if-at-log.false (stepped c.read_step-g.ensures c.in-Next.is) c.step_at-step.ensures in
+    let g = read_well (goal.at.judge-verdict-requires c).After-step_at-step in
     let e = sym p.rows in (
       subst (λ (n : ℕ). Planned a.model.now a.row_starts.now a.task.variables n) e p,
       c.requires.1,
@@ -78,12 +83,11 @@ judge-verdict-requires c =
 pub returns-in-Passes-clause-moved : goal.returns-in-Passes-clause-moved
 returns-in-Passes-clause-moved c =
     let a = c.args in
-    let p = c.requires.0 in
     let l = a.log.now in
     let m = model_of a.model.now in
     let h = c.is_held-held in
     let t = c.step_at-step.result in
-    let g = reach m p.variables p.rows (omega (arith, c.requires.3)) c.if-at-log.false (stepped c.read_step-g.ensures c.in-Next.is) c.step_at-step.ensures in
+    let g = read_well (goal.at.returns-in-Passes-clause-moved c).After-step_at-step in
     let v = judged_is m (made_fact l) a.passed.now (step_of l t) h.result (ap not c.if-waved.false) c.judge-verdict.ensures in
     rw c.after_passing-in-Passes.ensures
     (λ j.
@@ -92,19 +96,17 @@ returns-in-Passes-clause-moved c =
 
 pub returns-in-Passes-clause-leads : goal.returns-in-Passes-clause-leads
 returns-in-Passes-clause-leads c =
-    let p = c.requires.0 in
-    let g = reach (model_of c.args.model.now) p.variables p.rows (omega (arith, c.requires.3)) c.if-at-log.false (stepped c.read_step-g.ensures c.in-Next.is) c.step_at-step.ensures in
+    let g = read_well (goal.at.returns-in-Passes-clause-leads c).After-step_at-step in
     rw c.after_passing-in-Passes.ensures (g.leads c.is_held-held.result)
 
 pub returns-in-Fails-clause-moved : goal.returns-in-Fails-clause-moved
 returns-in-Fails-clause-moved c =
     let a = c.args in
-    let p = c.requires.0 in
     let l = a.log.now in
     let m = model_of a.model.now in
     let h = c.is_held-held in
     let t = c.step_at-step.result in
-    let g = reach m p.variables p.rows (omega (arith, c.requires.3)) c.if-at-log.false (stepped c.read_step-g.ensures c.in-Next.is) c.step_at-step.ensures in
+    let g = read_well (goal.at.returns-in-Fails-clause-moved c).After-step_at-step in
     let e = sym (judged_is m (made_fact l) a.passed.now (step_of l t) h.result (ap not c.if-waved.false) c.judge-verdict.ensures) ∙ ap told_verdict c.in-Fails.is in
     λ j.
     has_failed (held_by a.task.whole a.task.changed) (say_by a.task.whole) m l (state_at (made_fact l) a.passed.now j) (length a.passed.now) a.at g.below t _ g.reads
@@ -112,13 +114,11 @@ returns-in-Fails-clause-moved c =
 
 pub returns-in-Fails-clause-leads : goal.returns-in-Fails-clause-leads
 returns-in-Fails-clause-leads c =
-    let a = c.args in
-    let p = c.requires.0 in
-    let l = a.log.now in
-    let m = model_of a.model.now in
+    let m = model_of c.args.model.now in
+    let l = c.args.log.now in
     let h = c.is_held-held in
     let t = c.step_at-step.result in
-    let g = reach m p.variables p.rows (omega (arith, c.requires.3)) c.if-at-log.false (stepped c.read_step-g.ensures c.in-Next.is) c.step_at-step.ensures in
-    let e = sym (judged_is m (made_fact l) a.passed.now (step_of l t) h.result (ap not c.if-waved.false) c.judge-verdict.ensures) ∙ ap told_verdict c.in-Fails.is in
+    let g = read_well (goal.at.returns-in-Fails-clause-leads c).After-step_at-step in
+    let e = sym (judged_is m (made_fact l) c.args.passed.now (step_of l t) h.result (ap not c.if-waved.false) c.judge-verdict.ensures) ∙ ap told_verdict c.in-Fails.is in
     let few = held_fails g h.result _ e in
     omega arith
