@@ -1,13 +1,18 @@
 -- An all-different row: its variables that pass a test.
-use Rattle.std.specs.Prelude.{ℕ, ◌+◌, ◌*◌, ◌≤◌, ◌<◌, ◌≡◌, Bool, true, false, length, take, set, ℤ}
+use Rattle.std.specs.Prelude.{ℕ, ◌+◌, ◌*◌, ◌≤◌, ◌<◌, ◌≡◌, Bool, true, false, length, take, set, map, ℤ}
 use Rattle.std.proofs.Common.{arith, sym, ap, ◌∙◌, add-one, take-suc-set}
 use mathlib.Core.List.{List, ◌++◌, append-nil, Memᴰ as In}
 use Rattle.std.proofs.Math.Seq.{append_snoc}
+use Rattle.words.specs.declared.VarNo.{VarNo}
 use Rattle.words.specs.Lists.{keep, keep_if, All}
 use Rattle.words.specs.ListFacts.{in_keep, in_at, each_of}
 use Rattle.reading.specs.At.{each_at, nat_at, length_each, get_or_each}
 use Rattle.model.specs.Rows.{VariablesIn}
 use Rattle.rule_facts.specs.Each.{each_from, from_start, from_next, from_end}
+
+-- the numbers of variables
+abbrev pub numbers : List VarNo → List ℕ
+numbers = map (λ (x : VarNo). x.0)
 
 -- variables of fewer are variables of more
 pub more_named : {v w : ℕ} {s : List ℤ} {p n : ℕ} → v ≤ w → VariablesIn v s p n → VariablesIn w s p n

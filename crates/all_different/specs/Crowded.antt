@@ -1,7 +1,7 @@
 -- The values left to some variables, counted in rising order up to as many as there are variables.
 use Rattle.std.specs.Prelude.{ℕ, ◌+◌, ◌≤◌, ◌<◌, ◌≡◌, true, false, length, ℤ, pos, nat_abs, ◌+ℤ◌}
 use Rattle.std.proofs.Common.{arith, ⊎_elim, SFits, lt-ltb, le-ltb}
-use Rattle.std.proofs.Math.Option.{none, some}
+use Rattle.std.specs.Prelude.{Some, None}
 use mathlib.Core.List.Memᴰ.{append_cases as in_either}
 use mathlib.Core.List.Memᴰ.{not-nil as not-in-nil}
 use mathlib.Core.List.{List, [], ◌∷◌, Memᴰ as In}
@@ -19,7 +19,7 @@ module _ (d : ℕ → List ℤ) (small : (x : ℕ) (v : ℤ) → In v (d x) → 
   union_small (x ∷ xs) v i = ⊎_elim (λ j. small x v j) (λ j. union_small xs v j) (in_either (d x) i)
 
   -- the value that was found is small too
-  pub soonest_small : (xs : List ℕ) {from v : ℤ} → Soonest from (union d xs) (some v) → nat_abs v ≤ most_value
+  pub soonest_small : (xs : List ℕ) {from v : ℤ} → Soonest from (union d xs) (Some v) → nat_abs v ≤ most_value
   soonest_small xs {v = v} (this i l h) = union_small xs v i
 
 -- so the number after it fits a word
@@ -34,11 +34,11 @@ module _ (d : ℕ → List ℤ) (xs : List ℕ) where
   pub count_start : ((x : ℕ) (v : ℤ) → In v (d x) → nat_abs v ≤ most_value) → SoFar (neg most_value) 0
   count_start small = let e = many_all (neg most_value) (union d xs) (λ v i. let h = union_small d small xs v i in omega (arith, zz, abs_is v)) in omega arith
 
-  pub count_next : {from v : ℤ} (found : ℕ) → Soonest from (union d xs) (some v) → SoFar from found → SoFar (v +ℤ pos 1) (found + 1)
+  pub count_next : {from v : ℤ} (found : ℕ) → Soonest from (union d xs) (Some v) → SoFar from found → SoFar (v +ℤ pos 1) (found + 1)
   count_next {from} {v} found (this i l h) e = let m = many_one_more from v (union d xs) i l h in omega arith
 
   -- no value is left to find: they are fewer than the variables
-  pub count_used_up : {from : ℤ} (found : ℕ) → Soonest from (union d xs) none → SoFar from found → found < length xs → crowded d xs ≡ true
+  pub count_used_up : {from : ℤ} (found : ℕ) → Soonest from (union d xs) None → SoFar from found → found < length xs → crowded d xs ≡ true
   count_used_up {from} found (nothing h) e l = let m = many_none from (union d xs) h in lt-ltb (length (once (union d xs))) (length xs) (omega arith)
 
   -- as many as the variables

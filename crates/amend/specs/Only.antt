@@ -1,5 +1,5 @@
 -- No other answer satisfies the promise of the comparison, and what the answer tells a caller.
-use Rattle.std.specs.Prelude.{ℕ, ◌≡◌, refl, true, false, get_or}
+use Rattle.std.specs.Prelude.{ℕ, ◌≡◌, refl, true, false, Option, get_or}
 use Rattle.std.proofs.Common.{sym, ap, ◌∙◌, arith}
 use Rattle.std.proofs.lemmas.Bool.{not-true, not-false}
 use Rattle.std.specs.Int.Count.{ones}
@@ -7,11 +7,11 @@ use Rattle.meaning.specs.Model.{Model}
 use Rattle.meaning.specs.Check.{Good, good, bad, fits_old, changes}
 use Rattle.meaning.specs.Check as says
 use Rattle.row_set.specs.Bits.{bit_at, packed, ones_packed, bit_packed}
+use Rattle.row_set.specs.Whole.{whole_in, set_in, only_set}
 use Rattle.amend.specs.Changed.{Answered, changed_if}
-use Rattle.amend.specs.declared.Amended.{Amended}
 
-pub only_amended : (g : Good) (n : Model) (a b : Amended) → Answered g n a.whole a.changed → Answered g n b.whole b.changed → a ≡ b
-only_amended g n a b p q = λ i. record { whole = (p.0 ∙ sym q.0) i; changed = (p.1 ∙ sym q.1) i }
+pub only_amended : (g : Good) (n : Model) (a b : Option ℕ) → Answered g n (whole_in a) (set_in a) → Answered g n (whole_in b) (set_in b) → a ≡ b
+only_amended g n a b p q = only_set a b (p.0 ∙ sym q.0) (p.1 ∙ sym q.1)
 
 -- the old model is bad, or it does not fit the new one
 pub data Otherwise (n : Model) : Good → Type 0 where

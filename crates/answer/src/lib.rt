@@ -5,6 +5,21 @@ ghost use Rattle.std.specs.Prelude.{◌≡◌};
 ghost use Rattle.meaning.specs.Check as says;
 ghost use Rattle.answer.specs.Numbers.{fields_of};
 
+// What is said of the log: the first of the nine numbers.
+#[derive(Clone, Copy)]
+pub enum Kind {
+    Refused = 0,
+    Accepted = 1,
+    Carried = 2,
+}
+
+// What a log concludes: the fifth of the nine numbers, which is 0 in a refusal.
+#[derive(Clone, Copy)]
+pub enum ConclusionKind {
+    NoAssignment = 3,
+    NeverBelow = 4,
+}
+
 // The answer as include/dimpsyholt.h has it.
 #[repr(C)]
 #[derive(Clone, Copy)]
@@ -25,7 +40,7 @@ pub fn refused(number: u32, step: u32, position: u32, changed: u32, judged: u32)
     ensures { result ≡ fields_of (says.shut number step position) changed judged }
 {
     DimpsyholtAnswer {
-        kind: 0,
+        kind: Kind::Refused as u32,
         number,
         step,
         position,

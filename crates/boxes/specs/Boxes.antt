@@ -39,7 +39,7 @@ narrowed_then log zero p cells = cells
 narrowed_then log (suc q) p cells = narrowed_not log p cells
 
 abbrev pub filled : List ℤ → ℕ → List ℤ → FactPlace → List ℤ → List ℤ
-filled model v log f cells = narrowed_then log f.then f.consequent (narrowed_each log f.count f.premises (loaded model 1 v cells))
+filled model v log f cells = narrowed_then log f.consequent.many f.consequent.from (narrowed_each log f.premises.many f.premises.from (loaded model 1 v cells))
 
 -- ---- a set is empty
 abbrev pub empty_at : List ℤ → ℕ → List ℤ → Bool
@@ -56,7 +56,7 @@ empty_then log zero p cells = false
 empty_then log (suc q) p cells = empty_at log p cells
 
 abbrev pub box_empty : List ℤ → FactPlace → List ℤ → Bool
-box_empty log f cells = empty_each log f.count f.premises cells || empty_then log f.then f.consequent cells
+box_empty log f cells = empty_each log f.premises.many f.premises.from cells || empty_then log f.consequent.many f.consequent.from cells
 
 -- ---- a box stays one
 pub record Boxed (v k : ℕ) (cells : List ℤ) : Type 0 where

@@ -86,8 +86,8 @@ module _ (log : List ℤ) (bs : List Bounds) where
       → Holds (box_of (fact_of log f)) k (filled model (length bs) log f cells)
   holds_filled f k model cells i h =
       let l = loaded model 1 (length bs) cells in
-      let h' : Holds [] (f.count + suc k) l = record { agrees = h.agrees; room = room_fewer l (omega (arith, i.few)) h.room } in
-      holds_then f.then f.consequent k _ _ i.one i.consequence (holds_each f.count f.premises (suc k) [] l i.premise h')
+      let h' : Holds [] (f.premises.many + suc k) l = record { agrees = h.agrees; room = room_fewer l (omega (arith, i.few)) h.room } in
+      holds_then f.consequent.many f.consequent.from k _ _ i.one i.consequence (holds_each f.premises.many f.premises.from (suc k) [] l i.premise h')
 
 -- ---- which sets can be empty
 declared_some : (bs : List Bounds) (x : ℕ) → x < length bs → is_empty (declared_at bs x) ≡ false
@@ -150,16 +150,16 @@ module _ (log : List ℤ) (cells : List ℤ) (bs : List Bounds) (atoms : List At
 
 -- every atom of a fact that was read names one of the variables
 fact_named : (v : ℕ) (log : List ℤ) (f : FactPlace) → FactIn v log f → (a : Atom) → In a (box_of (fact_of log f)) → a.variable < v
-fact_named v log f i a m = go f.then i.one i.consequence m
+fact_named v log f i a m = go f.consequent.many i.one i.consequence m
   where
-    premise : In a (each_at atom_at 3 f.count log f.premises) → a.variable < v
+    premise : In a (each_at atom_at 3 f.premises.many log f.premises.from) → a.variable < v
     premise m =
         let (j, h, e) = in_at (atom_at log 0) m in
-        let l : j < f.count = omega (arith, length_each atom_at 3 f.count log f.premises) in
-        let q = get_or_each atom_at 3 f.count log f.premises j (atom_at log 0) l in
+        let l : j < f.premises.many = omega (arith, length_each atom_at 3 f.premises.many log f.premises.from) in
+        let q = get_or_each atom_at 3 f.premises.many log f.premises.from j (atom_at log 0) l in
         subst (λ c. c.variable < v) (sym q ∙ e) (i.premise j l).named.known
 
-    go : (q : ℕ) → q ≤ 1 → (q ≡ 1 → AtomIn v log f.consequent) → In a (add_negated (then_at q log f.consequent) (each_at atom_at 3 f.count log f.premises)) → a.variable < v
+    go : (q : ℕ) → q ≤ 1 → (q ≡ 1 → AtomIn v log f.consequent.from) → In a (add_negated (then_at q log f.consequent.from) (each_at atom_at 3 f.premises.many log f.premises.from)) → a.variable < v
     go zero l c m = premise m
     go (suc zero) l c (here e) = subst (λ x. x.variable < v) (sym e) (c refl).named.known
     go (suc zero) l c (there m) = premise m
@@ -168,6 +168,6 @@ fact_named v log f i a m = go f.then i.one i.consequence m
 pub box_empty_is : (log cells : List ℤ) (bs : List Bounds) (f : FactPlace) → FactIn (length bs) log f → Agrees cells bs (box_of (fact_of log f))
     → box_empty log f cells ≡ any_empty bs (box_of (fact_of log f)) (length bs)
 box_empty_is log cells bs f i a =
-    ap (λ b. b || empty_then log f.then f.consequent cells) (each_emptied log cells bs (box_of (fact_of log f)) a f.count f.premises)
-    ∙ then_emptied log cells bs (box_of (fact_of log f)) a f.then f.consequent (each_at atom_at 3 f.count log f.premises)
+    ap (λ b. b || empty_then log f.consequent.many f.consequent.from cells) (each_emptied log cells bs (box_of (fact_of log f)) a f.premises.many f.premises.from)
+    ∙ then_emptied log cells bs (box_of (fact_of log f)) a f.consequent.many f.consequent.from (each_at atom_at 3 f.premises.many log f.premises.from)
     ∙ sym (empty_is bs (box_of (fact_of log f)) (fact_named (length bs) log f i))

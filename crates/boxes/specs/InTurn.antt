@@ -1,5 +1,7 @@
 -- Atoms that stand one after the other, three words each, taken in turn by a loop: after i of n, what is left to do.
-use Rattle.std.specs.Prelude.{ℕ, zero, suc, ◌+◌, ◌*◌, ◌-◌, ◌≤◌, ◌<◌, ◌≡◌}
+use Rattle.std.specs.Prelude.{ℕ, zero, suc, ◌+◌, ◌*◌, ◌-◌, ◌≤◌, ◌<◌, ◌≡◌, refl, Bool, false, ◌||◌}
+use Rattle.std.specs.List.{list_any, range_with_len}
+use Rattle.std.proofs.Common.{ap, ◌∙◌}
 use native.Mathlib.Omega.{arith}
 use Rattle.std.proofs.Math.Nat.{sub-zero}
 
@@ -46,3 +48,13 @@ module _ {A : Type 0} (f : ℕ → A → A) (n p : ℕ) where
     pub rest_none : (i : ℕ) → n ≤ i → rest i ≡ z
     unfolding from_all
     rest_none i h = let e : n - i ≡ 0 = omega arith in rw e
+
+-- does one of n things pass a test
+module _ (t : ℕ → Bool) (p : ℕ) where
+  some_on : (n i : ℕ) → list_any (λ j. t (p + j * 3)) (range_with_len i n) ≡ from_all (λ q b. t q || b) false n (p + i * 3)
+  unfolding from_all
+  some_on zero i = refl
+  some_on (suc n) i = let q : p + i * 3 + 3 ≡ p + (i + 1) * 3 = omega arith in rw q (ap (λ b. t (p + i * 3) || b) (some_on n (i + 1)))
+
+  pub some_in_turn : (n : ℕ) → list_any (λ j. t (p + j * 3)) (range_with_len 0 n) ≡ from_all (λ q b. t q || b) false n p
+  some_in_turn n = let q : p + 0 * 3 ≡ p = omega arith in some_on n 0 ∙ rw q

@@ -21,7 +21,7 @@ abbrev pub marked_each : List ℤ → ℕ → ℕ → List ℕ → List ℕ
 marked_each log = in_turn (marked_at log)
 
 abbrev pub marked_fact : List ℤ → FactPlace → List ℕ → List ℕ
-marked_fact log f ws = marked_each log f.then f.consequent (marked_each log f.count f.premises ws)
+marked_fact log f ws = marked_each log f.consequent.many f.consequent.from (marked_each log f.premises.many f.premises.from ws)
 
 -- only an all-different row, kind 2, asks for them
 abbrev pub asks_for : ℕ → Bool
@@ -39,8 +39,8 @@ pub fact_of_more : {v w : ℕ} {log : List ℤ} {f : FactPlace} → v ≤ w → 
 fact_of_more h i = record { few = i.few; one = i.one; fits = i.fits; premise = λ j l. atom_of_more h (i.premise j l); consequence = λ e. atom_of_more h (i.consequence e) }
 
 -- one consequent or none, as atoms one after the other
-pub consequents_in : {v : ℕ} {log : List ℤ} (f : FactPlace) → FactIn v log f → AtomsIn v log f.consequent f.then
-consequents_in f i j h = let e : f.consequent + j * 3 ≡ f.consequent = let o = i.one in omega arith in rw e (i.consequence (let o = i.one in omega arith))
+pub consequents_in : {v : ℕ} {log : List ℤ} (f : FactPlace) → FactIn v log f → AtomsIn v log f.consequent.from f.consequent.many
+consequents_in f i j h = let e : f.consequent.from + j * 3 ≡ f.consequent.from = let o = i.one in omega arith in rw e (i.consequence (let o = i.one in omega arith))
 
 consequents : (n : ℕ) (log : List ℤ) (p : ℕ) → n ≤ 1 → optional (then_at n log p) ≡ each_at atom_at 3 n log p
 unfolding each_at
@@ -87,11 +87,11 @@ any_append t (x ∷ xs) ys = ap (λ b. t x || b) (any_append t xs ys) ∙ move (
 -- just the variables that occur in the fact, in a set that had none
 pub marked_occurs : (log : List ℤ) (f : FactPlace) (ws : List ℕ) → ((x : ℕ) → marked ws x ≡ false) → FactIn (64 * length ws) log f → Occurring (fact_of log f) (marked_fact log f ws)
 marked_occurs log f ws none i x =
-    let l = marked_length log f.count f.premises ws in
-    marked_each_lem log x f.then f.consequent (marked_each log f.count f.premises ws) (rw l (consequents_in f i))
-    ∙ ap₂ ◌||◌ (ap (any (about x)) (sym (consequents f.then log f.consequent i.one)))
-    (marked_each_lem log x f.count f.premises ws i.premise ∙ ap (λ b. any (about x) (each_at atom_at 3 f.count log f.premises) || b) (none x) ∙ last (any (about x) (each_at atom_at 3 f.count log f.premises)))
-    ∙ sym (any_append (about x) (each_at atom_at 3 f.count log f.premises) (optional (then_at f.then log f.consequent)))
+    let l = marked_length log f.premises.many f.premises.from ws in
+    marked_each_lem log x f.consequent.many f.consequent.from (marked_each log f.premises.many f.premises.from ws) (rw l (consequents_in f i))
+    ∙ ap₂ ◌||◌ (ap (any (about x)) (sym (consequents f.consequent.many log f.consequent.from i.one)))
+    (marked_each_lem log x f.premises.many f.premises.from ws i.premise ∙ ap (λ b. any (about x) (each_at atom_at 3 f.premises.many log f.premises.from) || b) (none x) ∙ last (any (about x) (each_at atom_at 3 f.premises.many log f.premises.from)))
+    ∙ sym (any_append (about x) (each_at atom_at 3 f.premises.many log f.premises.from) (optional (then_at f.consequent.many log f.consequent.from)))
   where
     last : (b : Bool) → (b || false) ≡ b
     last true = refl

@@ -5,19 +5,18 @@ ghost use Rattle.steps.specs.Facts.{FactIn};
 ghost use Rattle.boxes.specs.Boxes.{AtomsIn};
 ghost use Rattle.boxes.specs.Occurrences.{marked_each, marked_fact, marked_where, asks_for};
 
+use reading::kinds::RowKind;
 use reading::number_at;
-use steps::FactPlace;
+use steps::{FactPlace, Run};
 
-// The variables of the atoms that begin at a position are in the set from now on.
-fn mark_each(log: &[i32], from: usize, count: usize, set: &mut [u64])
-    requires { AtomsIn (64 * length set.old) log.now from count }
-    ensures { set.new ≡ marked_each log.now count from set.old }
+// The variables of the atoms of a run are in the set from now on.
+fn mark_each(log: &[i32], atoms: Run, set: &mut [u64])
+    requires { AtomsIn (64 * length set.old) log.now atoms.from atoms.many }
+    ensures { set.new ≡ marked_each log.now atoms.many atoms.from set.old }
 {
-    let mut i: usize = 0;
-    while i < count {
-        let x = number_at(log, from + i * 3);
-        marks::add(x, &mut *set);
-        i += 1;
+    for i in 0..atoms.many {
+        let x = number_at(log, atoms.from + i * 3);
+        marks::add(x, set);
     }
 }
 
@@ -26,8 +25,8 @@ fn mark(log: &[i32], fact: FactPlace, set: &mut [u64])
     requires { FactIn (64 * length set.old) log.now fact }
     ensures { set.new ≡ marked_fact log.now fact set.old }
 {
-    mark_each(log, fact.premises, fact.count, &mut *set);
-    mark_each(log, fact.consequent, fact.then, &mut *set);
+    mark_each(log, fact.premises, set);
+    mark_each(log, fact.consequent, set);
 }
 
 // The same where the row whose kind stands at a position asks for them: all-different alone does, and for another kind the time is saved.
@@ -35,7 +34,7 @@ pub fn mark_where_asked(model: &[i32], at: usize, log: &[i32], fact: FactPlace, 
     requires { (at < length model.now) × (pos 0 ≤ℤ get_or model.now at (pos 0)) × FactIn (64 * length set.old) log.now fact }
     ensures { set.new ≡ marked_where (asks_for (nat_at model.now at)) log.now fact set.old }
 {
-    if number_at(model, at) == 2 {
-        mark(log, fact, &mut *set);
+    if RowKind::from(number_at(model, at)) == RowKind::AllDifferent {
+        mark(log, fact, set);
     }
 }

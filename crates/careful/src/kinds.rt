@@ -4,82 +4,53 @@ ghost use Rattle.meaning.specs.Read.{times};
 ghost use Rattle.meaning.specs.Log.{number_below, step_of_kind};
 ghost use Rattle.reading.specs.Told.{Skims};
 
-use crate::{facts, log};
+use crate::facts;
 use reading;
-use reading::Past;
-use reading::limits::MOST_HINTS;
+use reading::LOG;
+use reading::counts::{Count, Known};
+use reading::kinds::StepKind;
+use reading::limits::{MOST_HINTS, MOST_VALUE};
+use reading::refusals::Refusal;
 
-fn inference(s: &[i32], at: usize, v: usize, rows: usize) -> Past
-    requires { (v ≤ 65536) × (rows ≤ 65536) }
-    ensures { Skims (step_of_kind v rows 0 1) s.now at result }
+fn inference(s: &[i32], at: usize, known: Known) -> Result<usize, Refusal>
+    ensures { Skims (step_of_kind known.variables.n known.rows.n 0 1) s.now at result }
 {
-    let r = log::below(s, at, rows);
-    let Past::Next(n) = r else {
-        return r;
-    };
-    facts::fact(s, n, v)
+    let fact = LOG.below(s, at, known.rows.n)?;
+    facts::fact(s, fact, known.variables)
 }
 
-fn hints(s: &[i32], from: usize, n: usize, k: usize) -> Past
-    requires { k ≤ 65536 }
-    ensures { Skims (times n (number_below k)) s.now from result }
+fn hints(s: &[i32], from: usize, n: usize, k: Count) -> Result<usize, Refusal>
+    ensures { Skims (times n (number_below k.n)) s.now from result }
 {
-    let mut at = from;
-    let mut i = 0;
-    while i < n {
-        let p = log::below(s, at, k);
-        let Past::Next(next) = p else {
-            return p;
-        };
-        at = next;
-        i += 1;
-    }
-    Past::Next(at)
+    reading::times(n, from, |at| LOG.below(s, at, k.n))
 }
 
-fn deduction(s: &[i32], at: usize, v: usize, k: usize) -> Past
-    requires { (v ≤ 65536) × (k ≤ 65536) }
-    ensures { Skims (step_of_kind v 0 k 2) s.now at result }
+fn deduction(s: &[i32], at: usize, known: Known) -> Result<usize, Refusal>
+    ensures { Skims (step_of_kind known.variables.n 0 known.facts.n 2) s.now at result }
 {
-    let f = facts::fact(s, at, v);
-    let Past::Next(n) = f else {
-        return f;
-    };
-    let h = log::number(s, n, 0, MOST_HINTS);
-    let Past::Next(first) = h else {
-        return h;
-    };
-    let many = reading::number_at(s, n);
-    hints(s, first, many, k)
+    let end = facts::fact(s, at, known.variables)?;
+    let first = LOG.number(s, end, 0, MOST_HINTS)?;
+    let many = reading::number_at(s, end);
+    hints(s, first, many, known.facts)
 }
 
-fn never_below(s: &[i32], at: usize, v: usize, k: usize) -> Past
-    requires { (v ≤ 65536) × (k ≤ 65536) }
-    ensures { Skims (step_of_kind v 0 k 4) s.now at result }
+fn never_below(s: &[i32], at: usize, known: Known) -> Result<usize, Refusal>
+    ensures { Skims (step_of_kind known.variables.n 0 known.facts.n 4) s.now at result }
 {
-    let x = log::below(s, at, v);
-    let Past::Next(n) = x else {
-        return x;
-    };
-    let a = log::value(s, n);
-    let Past::Next(m) = a else {
-        return a;
-    };
-    log::below(s, m, k)
+    let least = LOG.below(s, at, known.variables.n)?;
+    let cited = LOG.within(s, least, MOST_VALUE)?;
+    LOG.below(s, cited, known.facts.n)
 }
 
-pub fn of_kind(s: &[i32], at: usize, kind: usize, k: usize, v: usize, rows: usize) -> Past
-    requires { (1 ≤ kind) × (v ≤ 65536) × (rows ≤ 65536) × (k ≤ 65536) }
-    ensures { Skims (step_of_kind v rows k kind) s.now at result }
+// The kind stays the number that was read: the promise speaks of it.
+pub fn of_kind(s: &[i32], at: usize, kind: usize, known: Known) -> Result<usize, Refusal>
+    requires { 1 ≤ kind }
+    ensures { Skims (step_of_kind known.variables.n known.rows.n known.facts.n kind) s.now at result }
 {
-    if kind == 1 {
-        return inference(s, at, v, rows);
+    match StepKind::from(kind) {
+        StepKind::Inference => inference(s, at, known),
+        StepKind::Deduction => deduction(s, at, known),
+        StepKind::NoAssignment => LOG.below(s, at, known.facts.n),
+        StepKind::NeverBelow => never_below(s, at, known),
     }
-    if kind == 2 {
-        return deduction(s, at, v, k);
-    }
-    if kind == 3 {
-        return log::below(s, at, k);
-    }
-    never_below(s, at, v, k)
 }

@@ -3,24 +3,20 @@
 
 mod facts;
 mod kinds;
-mod log;
 
-ghost use Rattle.std.specs.Prelude.{◌≤◌};
 ghost use Rattle.meaning.specs.Log.{step};
 ghost use Rattle.reading.specs.Told.{Skims};
 
 use reading;
-use reading::Past;
+use reading::LOG;
+use reading::counts::Known;
+use reading::refusals::Refusal;
 
-// Step k of the log, which begins at a position: v variables and rows many rows can be named, and the facts below k.
-pub fn step(s: &[i32], at: usize, k: usize, v: usize, rows: usize) -> Past
-    requires { (v ≤ 65536) × (rows ≤ 65536) × (k ≤ 65536) }
-    ensures { Skims (step v rows k) s.now at result }
+// The step that begins at a position.
+pub fn step(s: &[i32], at: usize, known: Known) -> Result<usize, Refusal>
+    ensures { Skims (step known.variables.n known.rows.n known.facts.n) s.now at result }
 {
-    let p = log::number(s, at, 1, 4);
-    let Past::Next(n) = p else {
-        return p;
-    };
+    let from = LOG.number(s, at, 1, 4)?;
     let kind = reading::number_at(s, at);
-    kinds::of_kind(s, n, kind, k, v, rows)
+    kinds::of_kind(s, from, kind, known)
 }

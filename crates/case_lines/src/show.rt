@@ -1,69 +1,32 @@
 // An answer as the lines of the text have it.
 use answer::DimpsyholtAnswer;
+use lines;
 use std::io;
 
-fn text(rt: &impl Print, s: &[u8]) -> io::Result<()> {
-    rt.write_all(s)
-}
+// What a place holds as it is lent.
+pub const AS_LENT: u32 = u32::MAX;
 
-// A line of a text, as it stands there.
-pub fn line(rt: &impl Print, s: &[u8], from: usize, end: usize) -> io::Result<()> {
-    if end < from {
-        return Ok(());
-    }
-    if s.len() < end {
-        return Ok(());
-    }
-    text(rt, &s[from..end])?;
-    text(rt, b"\n")
-}
-
-fn number(rt: &impl Print, n: u32) -> io::Result<()> {
-    text(rt, b" ")?;
-    print!(rt; "{n}")
-}
-
-// The least word has no counterpart above zero.
-fn signed(rt: &impl Print, v: i32) -> io::Result<()> {
-    if v < -2147483647 {
-        return text(rt, b"-2147483648");
-    }
-    if v < 0 {
-        text(rt, b"-")?;
-        let size = words::index(-v);
-        print!(rt; "{size}")
-    } else {
-        let size = words::index(v);
-        print!(rt; "{size}")
-    }
+// The line that a text begins with, as it stands there.
+pub fn line(rt: &impl Print, text: &[u8]) -> io::Result<()> {
+    let end = lines::find(text, b'\n').unwrap_or(text.len());
+    rt.write_all(&text[..end])?;
+    println!(rt)
 }
 
 // The nine numbers.
 pub fn answer(rt: &impl Print, a: DimpsyholtAnswer) -> io::Result<()> {
-    text(rt, b"answer")?;
-    number(rt, a.kind)?;
-    number(rt, a.number)?;
-    number(rt, a.step)?;
-    number(rt, a.position)?;
-    number(rt, a.conclusion)?;
-    number(rt, a.variable)?;
-    text(rt, b" ")?;
-    signed(rt, a.value)?;
-    number(rt, a.changed)?;
-    number(rt, a.judged)?;
-    text(rt, b"\n")
+    print!(rt; "answer {} {} {} {}", a.kind, a.number, a.step, a.position)?;
+    print!(rt; " {} {} {}", a.conclusion, a.variable, a.value)?;
+    println!(rt; " {} {}", a.changed, a.judged)
 }
 
 // The places that are not as they were lent.
 pub fn written(rt: &impl Print, places: &[u32]) -> io::Result<()> {
-    text(rt, b"written")?;
-    let mut k: usize = 0;
-    while k < places.len() {
-        let start = places[k];
-        if start < 4294967295 {
-            number(rt, start)?;
+    print!(rt; "written")?;
+    for start in places {
+        if *start < AS_LENT {
+            print!(rt; " {start}")?;
         }
-        k += 1;
     }
-    text(rt, b"\n")
+    println!(rt)
 }

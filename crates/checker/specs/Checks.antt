@@ -1,5 +1,5 @@
 -- What `check` and `recheck` promise, and that each way they end keeps the promise.
-use Rattle.std.specs.Prelude.{ℕ, ◌<◌, ◌≡◌, refl, Bool, true, false, List, ◌++◌, ℤ, length, drop, get_or}
+use Rattle.std.specs.Prelude.{ℕ, ◌<◌, ◌≡◌, refl, Bool, true, false, List, ◌++◌, ℤ, length, drop, get_or, Ok}
 use Rattle.std.proofs.Common.{sym, ap, ap₂, ◌∙◌, arith}
 use Rattle.std.proofs.Math.Path.{fun_ext}
 use Rattle.std.specs.Int.Count as count
@@ -17,9 +17,11 @@ use Rattle.row_set.specs.Bits.{bit_at}
 use Rattle.amend.specs.Changed.{Answered}
 use Rattle.amend.specs.Only.{Otherwise, refused, unfit, whole_told, partly_told}
 use Rattle.walking.specs.Told.{told_answer, held_by, say_by, NamesIn, Tells}
-use Rattle.checker.specs.Entry.{RefusedAt, OpenTo}
+use Rattle.reading.specs.Reasons.{number_of}
+use Rattle.reading.specs.declared.refusals.Refusal.{Refusal}
+use Rattle.model.specs.declared.Plan.{Plan}
+use Rattle.checker.specs.Entry.{RefusedAt, OpenTo, Enters, ToldEarly}
 use Rattle.walking.specs.declared.Answer.{Answer}
-use Rattle.walking.specs.declared.Answer.TheVariants as answer
 use Rattle.walking.specs.declared.Walked.{Walked}
 use Rattle.checker.specs.declared.Rechecked.{Rechecked}
 
@@ -50,12 +52,12 @@ module _ (model log : List ℤ) (places : ℕ) where
   check_open : {starts : List ℕ} {v c : ℕ} → OpenTo model log places starts v c → says.check model log places ≡ says.over (λ t. true) says.accepted (model_of model) log
   check_open o = o.on (λ m. says.over (λ t. true) says.accepted m log)
 
-  pub checks_refused : (lent : List ℕ) (num p : ℕ) → RefusedAt model log places num p → Checks (answer.Refused num 0 p) lent lent (says.check model log places)
-  checks_refused lent num p s = rw (check_refused s) (record { answered = refl; noted = refl; named = tt })
+  pub checks_refused : (lent : List ℕ) {e : Refusal} {r : Answer} → RefusedAt model log places (number_of e.reason) e.position → ToldEarly e r → Checks r lent lent (says.check model log places)
+  checks_refused lent s t = rw (check_refused s, t) (record { answered = refl; noted = refl; named = tt })
 
-  pub checks_open : {starts : List ℕ} {v c : ℕ} (w : Walked) (lent left : List ℕ) → OpenTo model log places starts v c
-      → Tells w lent left (says.over (held_by true 0) (say_by true) (model_of model) log) → Checks w.answer lent left (says.check model log places)
-  checks_open w lent left o t = rw (check_open o) (record { answered = t.answered; noted = t.noted; named = t.named })
+  pub checks_open : (plan : Plan) (w : Walked) (lent left : List ℕ) → Enters model log places (Ok plan)
+      → Tells w lent left (says.over (held_by true 0) (say_by true) (model_of plan.words.now) log) → Checks w.answer lent left (says.check model log places)
+  checks_open plan w lent left (e, o) told = let t = rw e at told in rw (check_open o) (record { answered = t.answered; noted = t.noted; named = t.named })
 
 -- ---- the recheck
 -- the walk's refusals are none of 1 to 7
@@ -109,8 +111,9 @@ module _ (old new log : List ℤ) (places : ℕ) where
       go (says.good o) says.bad = early _ _
       go (says.good o) (says.good n) = fit o n (says.fits_old o n)
 
-  pub rechecks_refused : (lent : List ℕ) (num p : ℕ) → RefusedAt new log places num p → Rechecks (record { answer = answer.Refused num 0 p; changed = 0; judged = 0 }) lent lent (says.recheck old new log places)
-  rechecks_refused lent num p s = rw (recheck_refused s) (record { answered = refl; noted = refl; sized = refl; counted = refl; named = tt })
+  pub rechecks_refused : (lent : List ℕ) {e : Refusal} {r : Answer} → RefusedAt new log places (number_of e.reason) e.position → ToldEarly e r
+      → Rechecks (record { answer = r; changed = 0; judged = 0 }) lent lent (says.recheck old new log places)
+  rechecks_refused lent s t = rw (recheck_refused s, t) (record { answered = refl; noted = refl; sized = refl; counted = refl; named = tt })
 
   module _ {starts : List ℕ} {v c : ℕ} (way : OpenTo new log places starts v c) where
     abbrev walk : Bool → ℕ → says.Outcome
@@ -144,6 +147,8 @@ module _ (old new log : List ℤ) (places : ℕ) where
     recheck_open true set a = whole_is set a
     recheck_open false set a = part_is set a
 
-    pub rechecks_open : (w : Bool) (set n : ℕ) (r : Walked) (lent left : List ℕ) → Answered (says.read_good old) (model_of new) w set → n ≡ size_by w set c
-        → Tells r lent left (walk w set) → Rechecks (record { answer = r.answer; changed = n; judged = r.judged }) lent left (says.recheck old new log places)
-    rechecks_open w set n r lent left a e t = rw (recheck_open w set a) (record { answered = t.answered; noted = t.noted; sized = e; counted = t.counted; named = t.named })
+  pub rechecks_open : (plan : Plan) → Enters new log places (Ok plan) → (w : Bool) (set n : ℕ) (r : Walked) (lent left : List ℕ) → Answered (says.read_good old) (model_of plan.words.now) w set → n ≡ size_by w set plan.rows
+      → Tells r lent left (says.over (held_by w set) (say_by w) (model_of plan.words.now) log) → Rechecks (record { answer = r.answer; changed = n; judged = r.judged }) lent left (says.recheck old new log places)
+  rechecks_open plan (is, way) w set n r lent left a e told =
+      let t = rw is at told in
+      rw (recheck_open way w set (rw is at a)) (record { answered = t.answered; noted = t.noted; sized = e; counted = t.counted; named = t.named })

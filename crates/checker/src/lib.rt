@@ -6,16 +6,14 @@ mod entry;
 ghost use Rattle.std.specs.Prelude.{◌≡◌, ◌≤◌, length};
 ghost use Rattle.meaning.specs.Limits.{most_rows};
 ghost use Rattle.meaning.specs.Check.{check, recheck};
+ghost use Rattle.row_set.specs.Whole.{whole_in, set_in};
 ghost use Rattle.checker.specs.Checks.{Checks, Rechecks, size_by};
 
 use amend;
-use amend::Amended;
-use model;
-use reading::Past;
 use reading::limits::{MOST_HINTS, MOST_PREMISES, MOST_ROWS, MOST_VARIABLES};
 use row_set;
 use walking;
-use walking::{Answer, Task};
+use walking::Answer;
 
 // The words of a step's box: two counts, two ends for each variable, and two words for each atom of the fact and for each hint.
 const BOX_WORDS: usize = 2 * MOST_VARIABLES + 2 * (MOST_PREMISES + 1 + MOST_HINTS) + 2;
@@ -33,30 +31,24 @@ pub fn check(model: &[i32], log: &[i32], places: &mut [u32]) -> Answer
     ensures { Checks result places.old places.new (check model.now log.now (length places.old)) }
 {
     let mut row_starts = [0u32; MOST_ROWS];
-    let e = entry::enter(model, log, places.len(), &mut row_starts);
-    let Past::Next(_) = e else {
-        return entry::refused(e);
-    };
-    let task = Task {
-        variables: model::variables_of(model),
-        rows: model::rows_of(model),
-        whole: true,
-        changed: 0,
-    };
-    let mut cells = [0i32; BOX_WORDS];
-    let w = walking::walk(model, &row_starts, task, log, &mut *places, &mut cells);
-    w.answer
+    match entry::enter(model, log, places.len(), &mut row_starts) {
+        Err(e) => entry::refused(e),
+        Ok(plan) => {
+            let mut cells = [0i32; BOX_WORDS];
+            walking::walk(plan, None, log, places, &mut cells).answer
+        }
+    }
 }
 
 // How many rows are reported: in whole mode all.
-fn rows_reported(amended: Amended, rows: usize) -> u32
+fn rows_reported(changed: Option<u64>, rows: usize) -> u32
     requires { rows ≤ most_rows }
-    ensures { result ≡ size_by amended.whole amended.changed rows }
+    ensures { result ≡ size_by (whole_in changed) (set_in changed) rows }
 {
-    if amended.whole {
-        return rows as u32;
+    match changed {
+        None => rows as u32,
+        Some(set) => row_set::size_of_set(set),
     }
-    row_set::size_of_set(amended.changed)
 }
 
 // The recheck of an amended plan: only the inferences that cite a changed row are judged, or all steps where the old model does not fit.
@@ -64,30 +56,21 @@ pub fn recheck(old: &[i32], new: &[i32], log: &[i32], places: &mut [u32]) -> Rec
     ensures { Rechecks result places.old places.new (recheck old.now new.now log.now (length places.old)) }
 {
     let mut row_starts = [0u32; MOST_ROWS];
-    let e = entry::enter(new, log, places.len(), &mut row_starts);
-    let Past::Next(_) = e else {
-        return Rechecked {
+    match entry::enter(new, log, places.len(), &mut row_starts) {
+        Err(e) => Rechecked {
             answer: entry::refused(e),
             changed: 0,
             judged: 0,
-        };
-    };
-    let variables = model::variables_of(new);
-    let rows = model::rows_of(new);
-    let amended = amend::compare(old, new, &row_starts, variables, rows);
-    let task = Task {
-        variables,
-        rows,
-        whole: amended.whole,
-        changed: amended.changed,
-    };
-    let mut cells = [0i32; BOX_WORDS];
-    let w = walking::walk(new, &row_starts, task, log, &mut *places, &mut cells);
-    let changed = rows_reported(amended, rows);
-    let answer = w.answer;
-    Rechecked {
-        answer,
-        changed,
-        judged: w.judged,
+        },
+        Ok(plan) => {
+            let set = amend::compare(old, plan);
+            let mut cells = [0i32; BOX_WORDS];
+            let w = walking::walk(plan, set, log, places, &mut cells);
+            Rechecked {
+                answer: w.answer,
+                changed: rows_reported(set, plan.rows),
+                judged: w.judged,
+            }
+        }
     }
 }

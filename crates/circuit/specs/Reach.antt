@@ -1,8 +1,9 @@
 -- The positions that position 0 reaches, as a mask: found one position at a time, or by sweeps until nothing is added.
-use Rattle.std.specs.Prelude.{ℕ, ◌+◌, ◌^◌, ◌≤◌, ◌<◌, ◌≡◌, refl, Bool, true, false, List, ℤ, pos, length, get_or, set}
+use Rattle.std.specs.Prelude.{ℕ, ◌+◌, ◌^◌, ◌≤◌, ◌<◌, ◌≡◌, refl, Bool, true, false, List, ℤ, pos, length, get_or, set, take}
 use Rattle.std.proofs.Common.{sym, subst, ◌∙◌, ⊎_elim, arith, pow_pos, get_or-set_same, get_or-set_other, below_more, eqb-true}
 use Rattle.std.specs.Int.Bits.{bit_or, bit_xor}
 use Rattle.std.proofs.lemmas.Nat.{or_lt}
+use Rattle.std.proofs.lemmas.List.{get_or-take}
 use Rattle.std.proofs.Math.Pow.{pow-lt}
 use Rattle.words.specs.Int.{eq_z}
 use Rattle.words.specs.Lists.{member}
@@ -30,6 +31,10 @@ Links edge n t = Rows edge n n t
 -- a table's links are its own
 pub links_own : (edge : ℕ → ℕ → Bool) (n : ℕ) (t : List ℕ) → Links edge n t → Links (leads t) n t
 links_own edge n t l i h = record { below = (l i h).below; bits = λ k g. refl }
+
+-- the first n rows alone
+pub links_cut : (edge : ℕ → ℕ → Bool) (n : ℕ) (t : List ℕ) → Links edge n t → Links edge n (take n t)
+links_cut edge n t l i h = rw (get_or-take n t i 0 h) (l i h)
 
 pub rows_more : (edge : ℕ → ℕ → Bool) (n m : ℕ) (t : List ℕ) {v : ℕ} → m < length t → Rows edge n m t → Mask n (edge m) v → Rows edge n (m + 1) (set t m v)
 rows_more edge n m t {v} l r h = below_more (λ i. Mask n (edge i) (get_or (set t m v) i 0)) m

@@ -6,15 +6,16 @@ use Rattle.words.specs.ListFacts.{same_test}
 use Rattle.meaning.specs.Model.{Activity}
 use Rattle.meaning.specs.Rule.{surely, sure}
 use Rattle.meaning.proofs.Proved.Positions.{others_of, sum_others}
-use Rattle.sure_parts.specs.Parts.{Part, used_is, load_is}
+use Rattle.sure_parts.specs.declared.Part.{Part}
+use Rattle.sure_parts.specs.Parts.{PartOf, used_is, load_is}
 use Rattle.cumulative.specs.Jumps.{bad}
 use Rattle.cumulative.specs.Steps.{over}
 
 in_naturals : (c : ℕ) (a b l : ℤ) (own u total : ℕ) → a ≡ pos own → b ≡ pos u → l ≡ pos total → lt_z (pos c +ℤ a) (b +ℤ l) ≡ ltb (c + own) (u + total)
 in_naturals c a b l own u total p q r = rw (p, q, r)
 
-module _ (d : ℕ → List ℤ) (ps : List ℤ) (t : ℤ) (none : Activity) (acts : List Activity) where
-  pub over_is : (n c i : ℕ) → length acts ≡ n → i < n → ((k : ℕ) → k < n → Part d (get_or acts k none) ps k)
+module _ (d : ℕ → List ℤ) (ps : List Part) (t : ℤ) (none : Activity) (acts : List Activity) where
+  pub over_is : (n c i : ℕ) → length acts ≡ n → i < n → ((k : ℕ) → k < n → PartOf d (get_or acts k none) ps k)
       → over ps n (pos c) i t ≡ bad d c (get_or acts i none) (others_of i acts) t
   over_is n c i e l f =
       let j = get_or acts i none in

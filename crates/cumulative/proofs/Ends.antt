@@ -7,11 +7,12 @@ use Rattle.std.specs.Int.Signed.{le_z, lt_z, ≤ℤ_refl}
 use Rattle.words.specs.Int.{zz}
 use Rattle.words.specs.ListFacts.{tested, clash, and_true, and_both, of_lt, of_le}
 use Rattle.meaning.specs.Below.{up_to_lem}
+use Rattle.sure_parts.specs.declared.Part.{Part}
 use Rattle.sure_parts.specs.Table.{until_of}
 use Rattle.cumulative.specs.Steps.{over_by, nearer, next_end, later, last_bad}
 
 -- ---- the first end after t of another activity, u at most
-module _ (ps : List ℤ) (i : ℕ) (t : ℤ) where
+module _ (ps : List Part) (i : ℕ) (t : ℤ) where
   -- what is known of e once the first n were looked at
   pub record First (u : ℤ) (n : ℕ) (e : ℤ) : Type 0 where
     pub upto : e ≤ℤ u
@@ -56,11 +57,11 @@ module _ (ps : List ℤ) (i : ℕ) (t : ℤ) where
       go e f = ⊎_elim (λ h. rw h (nearer_taken u n e f h)) (λ h. rw h (nearer_left u n e f h)) (tested (nearer_test n e))
 
 -- ---- activity i finds no room just before the end of activity k's sure part
-abbrev pub no_room : List ℤ → List ℤ → ℤ → ℕ → ℕ → Bool
+abbrev pub no_room : List Part → List ℤ → ℤ → ℕ → ℕ → Bool
 no_room ps peaks c i k = over_by ps c i (until_of ps k -ℤ pos 1) (get_or peaks k (pos 0))
 
 -- the last such end after s, `stop` at most
-module _ (ps peaks : List ℤ) (c : ℤ) (i : ℕ) (s stop : ℤ) where
+module _ (ps : List Part) (peaks : List ℤ) (c : ℤ) (i : ℕ) (s stop : ℤ) where
   -- what e is once the first n were looked at
   pub data Last (n : ℕ) : ℤ → Type 0 where
     nowhere : ((k : ℕ) → k < n → s <ℤ until_of ps k → until_of ps k ≤ℤ stop → no_room ps peaks c i k ≡ false) → Last n s

@@ -9,6 +9,7 @@ use Rattle.words.specs.ListFacts.{tested, clash, any_found, or_cases, and_true, 
 use Rattle.meaning.specs.Model.{Activity}
 use Rattle.meaning.specs.Rule.{sure}
 use Rattle.meaning.proofs.Proved.Loads.{Bad}
+use Rattle.sure_parts.specs.declared.Part.{Part}
 use Rattle.sure_parts.specs.Parts.{ending}
 use Rattle.cumulative.specs.Jumps.{bad, tries, tried, tries_covers, Passed, passed_jump}
 use Rattle.meaning.proofs.Proved.Positions.{others_of, others_at}
@@ -16,7 +17,7 @@ use Rattle.sure_parts.specs.Table.{from_of, until_of, peak}
 use Rattle.cumulative.specs.Steps.{over, over_by, next_end, leap}
 use Rattle.cumulative.proofs.Turns.{leap_over, leap_under}
 use Rattle.cumulative.proofs.Ends.{next_first, no_room, Last, nowhere, found, last_is}
-use Rattle.sure_parts.specs.Parts.{Part}
+use Rattle.sure_parts.specs.Parts.{PartOf}
 use Rattle.cumulative.proofs.Beside.{over_is}
 
 -- the number before v, the other way round
@@ -27,9 +28,9 @@ after_before : (v w : ℤ) → v ≤ℤ (w -ℤ pos 1) → v <ℤ w
 after_before v w h = omega (arith, zz, diff w (pos 1))
 
 -- the tables of a row: the sure parts of its n activities, and what is surely in use just before each ends
-pub record Tables (d : ℕ → List ℤ) (none : Activity) (acts : List Activity) (n : ℕ) (ps peaks : List ℤ) : Type 0 where
+pub record Tables (d : ℕ → List ℤ) (none : Activity) (acts : List Activity) (n : ℕ) (ps : List Part) (peaks : List ℤ) : Type 0 where
   pub size : length acts ≡ n
-  pub parts : (k : ℕ) → k < n → Part d (get_or acts k none) ps k
+  pub parts : (k : ℕ) → k < n → PartOf d (get_or acts k none) ps k
   pub peaked : (k : ℕ) → k < n → get_or peaks k (pos 0) ≡ peak ps n k
 
 module _ (d : ℕ → List ℤ) (c : ℕ) (j : Activity) (others : List Activity) where
@@ -38,7 +39,7 @@ module _ (d : ℕ → List ℤ) (c : ℕ) (j : Activity) (others : List Activity
     free : tried d c j others s ≡ false → Leapt s s
     onward : {u : ℤ} → s <ℤ u → (Passed d c j others s → Passed d c j others u) → Leapt s u
 
-module _ (d : ℕ → List ℤ) (c : ℕ) (none : Activity) (acts : List Activity) (n : ℕ) (ps peaks : List ℤ) (tables : Tables d none acts n ps peaks) (i : ℕ) (here : i < n) where
+module _ (d : ℕ → List ℤ) (c : ℕ) (none : Activity) (acts : List Activity) (n : ℕ) (ps : List Part) (peaks : List ℤ) (tables : Tables d none acts n ps peaks) (i : ℕ) (here : i < n) where
   abbrev own : Activity
   own = get_or acts i none
 

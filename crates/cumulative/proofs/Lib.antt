@@ -4,4 +4,4 @@ pub mod Beside
 pub mod Leaps
 pub mod Search
 pub mod Top
-pub mod Row
+pub mod RowFacts

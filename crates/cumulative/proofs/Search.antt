@@ -2,7 +2,7 @@
 use Rattle.std.specs.Prelude.{ℕ, ◌≤◌, ◌<◌, ◌≡◌, refl, true, false, ℤ, pos, get_or, ◌≤ℤ◌, ◌<ℤ◌}
 use Rattle.std.proofs.Common.{⊎_elim, arith}
 use mathlib.Core.List.{List, [], ◌∷◌, Memᴰ as In}
-use Rattle.std.proofs.Math.Option.{none, some}
+use Rattle.std.specs.Prelude.{Some, None}
 use Rattle.words.specs.Int.{zz, nlt_read}
 use Rattle.words.specs.Lists.{least, is_empty}
 use Rattle.words.specs.ListFacts.{Rising, clash, least_in, largest_above, lt_or_not}
@@ -10,6 +10,7 @@ use Rattle.meaning.specs.Model.{Activity}
 use Rattle.cumulative.specs.Jumps.{Passed, passed_none, passed_gap, passed_all, stopped}
 use Rattle.meaning.proofs.Proved.Positions.{others_of, squeezed_at}
 use Rattle.domain.specs.Sets.{first_from, first_from_in, first_from_least, none_from_left}
+use Rattle.sure_parts.specs.declared.Part.{Part}
 use Rattle.sure_parts.specs.Table.{from_of}
 use Rattle.cumulative.specs.Steps.{leap}
 use Rattle.cumulative.proofs.Leaps.{Tables, Leapt, free, onward, leapt}
@@ -30,7 +31,7 @@ module _ (d : ℕ → List ℤ) (rising : (x : ℕ) → Rising (d x)) (c : ℕ) 
   pub search_start : is_empty (d own.start) ≡ false → Searching d c nobody acts i (least (d own.start))
   search_start e = record { left = least_left (d own.start) e; passed = passed_none d c own (others_of i acts) (rising own.start) }
 
-  module _ (n : ℕ) (ps peaks : List ℤ) (tables : Tables d nobody acts n ps peaks) (here : i < n) (lasts : 1 ≤ own.duration) (s : ℤ) (at : Searching d c nobody acts i s) where
+  module _ (n : ℕ) (ps : List Part) (peaks : List ℤ) (tables : Tables d nobody acts n ps peaks) (here : i < n) (lasts : 1 ≤ own.duration) (s : ℤ) (at : Searching d c nobody acts i s) where
     abbrev others : List Activity
     others = others_of i acts
 
@@ -66,11 +67,11 @@ module _ (d : ℕ → List ℤ) (rising : (x : ℕ) → Rising (d x)) (c : ℕ) 
       pub search_beyond : from_of ps i <ℤ to → squeezed_at d c nobody acts i ≡ true
       search_beyond l = search_over (λ v m k. let g = largest_above (d own.start) (rising own.start) m in let e = (tables.parts i here).from_is in omega (arith, zz))
 
-      pub search_none : first_from to (d own.start) ≡ none → squeezed_at d c nobody acts i ≡ true
+      pub search_none : first_from to (d own.start) ≡ None → squeezed_at d c nobody acts i ≡ true
       search_none e = search_over (none_from_left to (d own.start) e)
 
       -- else the search goes on at the next one
-      pub search_on : (v : ℤ) → first_from to (d own.start) ≡ some v → Searching d c nobody acts i v × (s <ℤ v)
+      pub search_on : (v : ℤ) → first_from to (d own.start) ≡ Some v → Searching d c nobody acts i v × (s <ℤ v)
       search_on v e =
           let f = first_from_in to (d own.start) e in
           let m = f.1 in

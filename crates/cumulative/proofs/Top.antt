@@ -1,7 +1,7 @@
 -- The most that is surely in use at any time: it stands just before the end of some sure part. More than the capacity is an overload,
 -- and an activity that fits beside it finds room at every start.
 use Prim.Native.Nat.{ℕ, zero, suc, ◌+◌, ◌≤◌, ◌<◌}
-use Rattle.std.specs.Prelude.{◌≡◌, true, false, ◌⊎◌, ltb, pos, ◌+ℤ◌, ◌-ℤ◌, ◌≤ℤ◌, ◌<ℤ◌}
+use Rattle.std.specs.Prelude.{◌≡◌, true, false, ◌⊎◌, ltb, pos, length, ◌+ℤ◌, ◌-ℤ◌, ◌≤ℤ◌, ◌<ℤ◌}
 use Rattle.std.proofs.Math.Path.{refl}
 use Rattle.std.proofs.Common.{ap, subst, ◌∙◌, inr, ⊎_elim, add-one, arith, ltb-true, ltb-false}
 use Rattle.std.proofs.Math.Logic.{inl}
@@ -9,7 +9,6 @@ use mathlib.Core.List.{List, Memᴰ as In}
 use Rattle.std.proofs.Math.IntN.{ℤ}
 use Rattle.std.proofs.Math.ListN.{get_or}
 use Rattle.std.specs.Int.Signed.{le_z}
-use Rattle.meaning.specs.Limits.{most_parts}
 use Rattle.words.specs.Int.{zz}
 use Rattle.words.specs.Words.{max_z}
 use Rattle.words.specs.ListFacts.{Rising, tested, last_of, le_total, lt_or_not, in_at, all_at, before_le, before_lt}
@@ -17,6 +16,7 @@ use Rattle.meaning.specs.Model.{Activity}
 use Rattle.meaning.specs.Rule.{surely, sure, overloaded, blocked_from}
 use Rattle.meaning.specs.Below.{up_to_lem}
 use Rattle.meaning.proofs.Proved.Loads.{sure_some, overloaded_by, Blocked, blocked_of}
+use Rattle.sure_parts.specs.declared.Part.{Part}
 use Rattle.sure_parts.specs.Parts.{ending}
 use Rattle.cumulative.specs.Jumps.{sure_rises}
 use Rattle.meaning.proofs.Proved.Positions.{others_of, sum_others, squeezed_at}
@@ -68,10 +68,10 @@ module _ (peaks : List ℤ) where
       go : (t : ℤ) → Top n t → Top (suc n) (max_z t at)
       go t f = ⊎_elim (λ h. rw h (higher t f h)) (λ h. rw h (lower t f h)) (tested (le_z t at))
 
-pub top_upto : (peaks : List ℤ) (n : ℕ) → Loads peaks → n ≤ most_parts → top_of peaks n ≤ℤ pos most_load
+pub top_upto : (peaks : List ℤ) (n : ℕ) → Loads peaks → n ≤ length peaks → top_of peaks n ≤ℤ pos most_load
 top_upto peaks n small few = ⊎_elim (λ e. omega (arith, zz)) (λ g. let (k, l, e) = g in rw e (small.small k (omega arith)).1) (top_is peaks n).one
 
-module _ (d : ℕ → List ℤ) (rising : (x : ℕ) → Rising (d x)) (nobody : Activity) (acts : List Activity) (n : ℕ) (ps peaks : List ℤ) (tables : Tables d nobody acts n ps peaks) where
+module _ (d : ℕ → List ℤ) (rising : (x : ℕ) → Rising (d x)) (nobody : Activity) (acts : List Activity) (n : ℕ) (ps : List Part) (peaks : List ℤ) (tables : Tables d nobody acts n ps peaks) where
   peak_is : (k : ℕ) → k < n → get_or peaks k (pos 0) ≡ pos (sure d (until_of ps k -ℤ pos 1) acts)
   peak_is k l = tables.peaked k l ∙ load_is d ps (until_of ps k -ℤ pos 1) nobody acts n tables.size tables.parts
 

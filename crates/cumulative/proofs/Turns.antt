@@ -5,11 +5,12 @@ use Rattle.std.proofs.Common.{add-one, arith, SFits}
 use Rattle.std.specs.Int.Signed.{lt_z}
 use Rattle.std.specs.Int.{w32}
 use Rattle.words.specs.Int.{zz}
+use Rattle.sure_parts.specs.declared.Part.{Part}
 use Rattle.sure_parts.specs.Table.{from_of}
 use Rattle.sure_parts.specs.Sizes.{near_fits}
 use Rattle.cumulative.specs.Steps.{over, nearer, next_end, later, last_bad, leap, Start}
 
-module _ (ps : List ℤ) (i : ℕ) (t u : ℤ) (k : ℕ) where
+module _ (ps : List Part) (i : ℕ) (t u : ℤ) (k : ℕ) where
   pub next_none : next_end ps i t u 0 ≡ u
   unfolding next_end
   next_none = refl
@@ -18,7 +19,7 @@ module _ (ps : List ℤ) (i : ℕ) (t u : ℤ) (k : ℕ) where
   unfolding next_end
   next_more = rw (add-one k)
 
-module _ (ps peaks : List ℤ) (c : ℤ) (i : ℕ) (s stop : ℤ) (k : ℕ) where
+module _ (ps : List Part) (peaks : List ℤ) (c : ℤ) (i : ℕ) (s stop : ℤ) (k : ℕ) where
   pub bad_none : last_bad ps peaks c i s stop 0 ≡ s
   unfolding last_bad
   bad_none = refl
@@ -27,7 +28,7 @@ module _ (ps peaks : List ℤ) (c : ℤ) (i : ℕ) (s stop : ℤ) (k : ℕ) wher
   unfolding last_bad
   bad_more = rw (add-one k)
 
-module _ (ps peaks : List ℤ) (n : ℕ) (c : ℤ) (i : ℕ) (s lasts : ℤ) where
+module _ (ps : List Part) (peaks : List ℤ) (n : ℕ) (c : ℤ) (i : ℕ) (s lasts : ℤ) where
   pub leap_over : over ps n c i ((s +ℤ lasts) -ℤ pos 1) ≡ true → leap ps peaks n c i s lasts ≡ next_end ps i ((s +ℤ lasts) -ℤ pos 1) (from_of ps i +ℤ pos 1) n
   unfolding leap
   leap_over e = rw e

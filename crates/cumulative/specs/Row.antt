@@ -9,6 +9,7 @@ use Rattle.reading.specs.At.{nat_at, each_at}
 use Rattle.model.specs.Rows.{activity_at, Counted, ActivitiesIn}
 use Rattle.domain.specs.Box.{variables, values}
 use Rattle.rule_facts.specs.Ready.{Ready}
+use Rattle.sure_parts.specs.declared.Part.{Part}
 use Rattle.sure_parts.specs.Fill.{Filled, Peaked}
 
 abbrev pub activities : List ℤ → ℕ → List Activity
@@ -30,8 +31,8 @@ pub record CumulativeIn (v : ℕ) (m : List ℤ) (p : ℕ) : Type 0 where
   pub each : ActivitiesIn v m (p + 2) (nat_at m p)
 
 -- the row, the box, and the tables made of them
-pub record Prepared (cells m : List ℤ) (p : ℕ) (ps peaks : List ℤ) : Type 0 where
+pub record Prepared (cells m : List ℤ) (p : ℕ) (ps : List Part) (peaks : List ℤ) : Type 0 where
   pub row : CumulativeIn (variables cells) m p
   pub box : Ready cells
   pub filled : Filled (values cells) m (p + 2) (nat_at m p) ps
-  pub peaked : Peaked ps (nat_at m p) (nat_at m p) peaks
+  pub peaked : Peaked ps (nat_at m p) peaks

@@ -1,7 +1,7 @@
 -- A direction: up, towards high numbers, or down. What is known of both is said of turned numbers: ahead is more.
 use Rattle.std.specs.Prelude.{◌≡◌, refl, Bool, true, false, ℤ, pos, neg_ℤ, ◌+ℤ◌, ◌-ℤ◌, ◌≤ℤ◌, ◌<ℤ◌}
 use mathlib.Core.List.{List, Memᴰ as In}
-use Rattle.std.proofs.Math.Option.{Option, none, some}
+use Rattle.std.specs.Prelude.{Option, None, Some}
 use Rattle.std.proofs.Common.{arith}
 use Rattle.std.specs.Int.Signed.{lt_z}
 use Rattle.words.specs.Int.{zz, neg, sum, diff}
@@ -77,14 +77,14 @@ both_past true v w u h k = above_max v w h k
 both_past false v w u h k = turn_over (min_z v w) u (under_min v w (turned v u h) (turned w u k))
 
 -- the first ahead, by what it is
-pub is_from_on : (up : Bool) (from : ℤ) (l : List ℤ) {v : ℤ} → Rising l → In v l → turn up from ≤ℤ turn up v → ((w : ℤ) → In w l → turn up from ≤ℤ turn up w → turn up v ≤ℤ turn up w) → from_on up from l ≡ some v
+pub is_from_on : (up : Bool) (from : ℤ) (l : List ℤ) {v : ℤ} → Rising l → In v l → turn up from ≤ℤ turn up v → ((w : ℤ) → In w l → turn up from ≤ℤ turn up w → turn up v ≤ℤ turn up w) → from_on up from l ≡ Some v
 is_from_on true from l r i k h = is_first_from from l r i k h
 is_from_on false from l {v} r i k h = is_last_to from l r i (turned from v k) (λ w j m. turned v w (h w j (turn_over from w m)))
 
-pub none_on : (up : Bool) (from : ℤ) (l : List ℤ) → ((w : ℤ) → In w l → turn up from ≤ℤ turn up w → ⊥) → from_on up from l ≡ none
+pub none_on : (up : Bool) (from : ℤ) (l : List ℤ) → ((w : ℤ) → In w l → turn up from ≤ℤ turn up w → ⊥) → from_on up from l ≡ None
 none_on true from l h = none_from from l h
 none_on false from l h = none_to from l (λ w j m. h w j (turn_over from w m))
 
-pub from_on_in : (up : Bool) (from : ℤ) (l : List ℤ) {v : ℤ} → from_on up from l ≡ some v → In v l × (turn up from ≤ℤ turn up v)
+pub from_on_in : (up : Bool) (from : ℤ) (l : List ℤ) {v : ℤ} → from_on up from l ≡ Some v → In v l × (turn up from ≤ℤ turn up v)
 from_on_in true from l e = first_from_in from l e
 from_on_in false from l {v} e = let m = last_to_in from l e in (m.0, turn_over from v m.1)

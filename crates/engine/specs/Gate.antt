@@ -1,5 +1,5 @@
 -- What an engine is told, in its own words, and that the promises of the C interface say it. Nothing is asked of a table.
-use Rattle.std.specs.Prelude.{ℕ, ◌≤◌, ◌≡◌, Bool, ◌↔◌, ◌⊎◌, List, [], ℤ, length, get_or}
+use Rattle.std.specs.Prelude.{ℕ, ◌≤◌, ◌≡◌, Bool, ◌↔◌, ◌⊎◌, List, [], ℤ, length, get_or, Option, Some, None}
 use Rattle.std.proofs.Common.{sym, subst, inl, inr, arith}
 use Rattle.meaning.specs.Model.{Model}
 use Rattle.meaning.specs.Log.{Step}
@@ -16,8 +16,6 @@ use Rattle.answer.specs.Meant.{conclusion_of, meant}
 use Rattle.dimpsyholt.specs.Opens as promised
 use Rattle.answer.specs.declared.DimpsyholtAnswer.{DimpsyholtAnswer}
 use Rattle.gate.specs.Looks.{Opens, OpensAgain, Early, PlaceOf}
-use Rattle.gate.specs.declared.Start.{Start}
-use Rattle.gate.specs.declared.Start.TheVariants as start
 
 -- ---- what the gate may open on
 
@@ -44,9 +42,9 @@ pub record Begins (held : Model → Step → Bool) (model log : List ℤ) (k p :
   pub behind : ℕ
   pub is : PassedAt (held of) of log k p behind
 
-abbrev pub BeginsThere : List ℤ → List ℤ → ℕ → Start → Type 0
-BeginsThere model log k (start.At p) = Begins every model log k p
-BeginsThere model log k start.Unknown = Unit {0}
+abbrev pub BeginsThere : List ℤ → List ℤ → ℕ → Option ℕ → Type 0
+BeginsThere model log k (Some p) = Begins every model log k p
+BeginsThere model log k None = Unit {0}
 
 -- with the steps judged that a recheck judges
 pub record BeginsAgain (old new log : List ℤ) (k p : ℕ) : Type 0 where
@@ -55,9 +53,9 @@ pub record BeginsAgain (old new log : List ℤ) (k p : ℕ) : Type 0 where
   pub judges : Judges old new held say
   pub begins : Begins held new log k p
 
-abbrev pub BeginsThereAgain : List ℤ → List ℤ → List ℤ → ℕ → Start → Type 0
-BeginsThereAgain old new log k (start.At p) = BeginsAgain old new log k p
-BeginsThereAgain old new log k start.Unknown = Unit {0}
+abbrev pub BeginsThereAgain : List ℤ → List ℤ → List ℤ → ℕ → Option ℕ → Type 0
+BeginsThereAgain old new log k (Some p) = BeginsAgain old new log k p
+BeginsThereAgain old new log k None = Unit {0}
 
 -- conclusion 3 is "no assignment"
 nothing_concluded : (a : DimpsyholtAnswer) → a.conclusion ≡ 3 → conclusion_of a ≡ says.nothing
@@ -75,9 +73,9 @@ module _ (model log : List ℤ) (lent left : List ℕ) (a : DimpsyholtAnswer) (t
   pub early_so : Early a → left ≡ lent
   early_so (kind, number) = promised.early_places model log lent left a told kind number
 
-  pub begins_so : (k : ℕ) (r : Start) → PlaceOf a k left r → BeginsThere model log k r
-  begins_so k start.Unknown h = tt
-  begins_so k (start.At p) (kind, number, below, is) =
+  pub begins_so : (k : ℕ) (r : Option ℕ) → PlaceOf a k left r → BeginsThere model log k r
+  begins_so k None h = tt
+  begins_so k (Some p) (kind, number, below, is) =
       let w = promised.refused_places model log lent left a told kind number in
       let s = w.places.starts k below in
       record { of = w.of; words = length lent; admitted = w.admitted; behind = s.behind; is = subst (λ q. PassedAt (every w.of) w.of log k q s.behind) (sym is) s.is }
@@ -113,9 +111,9 @@ module _ (old new log : List ℤ) (lent left : List ℕ) (a : DimpsyholtAnswer) 
       go (inr (inl e)) = shown (promised.again_opens old new log lent left a told e)
       go (inr (inr e)) = shown (promised.carried_opens old new log lent left a told before behind was earlier accepted e)
 
-  pub begins_again_so : (k : ℕ) (r : Start) → PlaceOf a k left r → BeginsThereAgain old new log k r
-  begins_again_so k start.Unknown h = tt
-  begins_again_so k (start.At p) (kind, number, below, is) =
+  pub begins_again_so : (k : ℕ) (r : Option ℕ) → PlaceOf a k left r → BeginsThereAgain old new log k r
+  begins_again_so k None h = tt
+  begins_again_so k (Some p) (kind, number, below, is) =
       let w = promised.again_refused_places old new log lent left a told kind number in
       let s = w.places.starts k below in
       let j = promised.again_judges old new log lent left a told in

@@ -6,7 +6,6 @@ ghost use Rattle.engine.specs.Gate.{NoneLeft, NoneLeftAgain, BeginsThere, Begins
 
 use dimpsyholt;
 use gate;
-use gate::Start;
 
 // May the stage open, on this log and this model?
 pub fn may_open(model: &[i32], log: &[i32], places: &mut [u32]) -> bool
@@ -40,7 +39,7 @@ pub fn refused_unread(model: &[i32], log: &[i32], places: &mut [u32]) -> bool
 }
 
 // Where does step k of a refused log begin?
-pub fn step_start(model: &[i32], log: &[i32], k: usize, places: &mut [u32]) -> Start
+pub fn step_start(model: &[i32], log: &[i32], k: usize, places: &mut [u32]) -> Option<u32>
     ensures { BeginsThere model.now log.now k result }
 {
     let a = dimpsyholt::dimpsyholt_check(model, log, &mut *places);
@@ -54,7 +53,7 @@ pub fn step_start_again(
     log: &[i32],
     k: usize,
     places: &mut [u32],
-) -> Start
+) -> Option<u32>
     ensures { BeginsThereAgain old.now new.now log.now k result }
 {
     let a = dimpsyholt::dimpsyholt_recheck(old, new, log, &mut *places);

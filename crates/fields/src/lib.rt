@@ -5,39 +5,31 @@ ghost use Rattle.std.specs.Prelude.{◌≡◌};
 ghost use Rattle.meaning.specs.Limits.{most_variables};
 ghost use Rattle.walking.specs.Told.{told_conclusion, told_answer, ConclusionIn, NamesIn};
 ghost use Rattle.answer.specs.Numbers.{reached, fields_of};
+ghost use Rattle.answer.specs.Kinds.{number_of};
 
 use answer;
-use answer::DimpsyholtAnswer;
+use answer::{ConclusionKind, DimpsyholtAnswer, Kind};
 use walking::{Answer, Conclusion};
 
 // A conclusion that was reached, accepted or carried by the kind.
-fn reached(kind: u32, c: Conclusion, changed: u32, judged: u32) -> DimpsyholtAnswer
+fn reached(kind: Kind, c: Conclusion, changed: u32, judged: u32) -> DimpsyholtAnswer
     requires { ConclusionIn most_variables c }
-    ensures { result ≡ reached kind (told_conclusion c) changed judged }
+    ensures { result ≡ reached (number_of kind) (told_conclusion c) changed judged }
 {
-    match c {
-        Conclusion::NoAssignment => DimpsyholtAnswer {
-            kind,
-            number: 0,
-            step: 0,
-            position: 0,
-            conclusion: 3,
-            variable: 0,
-            value: 0,
-            changed,
-            judged,
-        },
-        Conclusion::NeverBelow(x, value) => DimpsyholtAnswer {
-            kind,
-            number: 0,
-            step: 0,
-            position: 0,
-            conclusion: 4,
-            variable: x.0 as u32,
-            value,
-            changed,
-            judged,
-        },
+    let (conclusion, variable, value) = match c {
+        Conclusion::NoAssignment => (ConclusionKind::NoAssignment, 0, 0),
+        Conclusion::NeverBelow(x, value) => (ConclusionKind::NeverBelow, x.0 as u32, value),
+    };
+    DimpsyholtAnswer {
+        kind: kind as u32,
+        number: 0,
+        step: 0,
+        position: 0,
+        conclusion: conclusion as u32,
+        variable,
+        value,
+        changed,
+        judged,
     }
 }
 
@@ -48,11 +40,11 @@ pub fn fields(answer: Answer, changed: u32, judged: u32) -> DimpsyholtAnswer
 {
     match answer {
         Answer::Refused {
-            number,
+            reason,
             step,
             position,
-        } => answer::refused(number, step, position, changed, judged),
-        Answer::Accepted(c) => reached(1, c, changed, judged),
-        Answer::Carried(c) => reached(2, c, changed, judged),
+        } => answer::refused(u32::from(reason), step, position, changed, judged),
+        Answer::Accepted(c) => reached(Kind::Accepted, c, changed, judged),
+        Answer::Carried(c) => reached(Kind::Carried, c, changed, judged),
     }
 }

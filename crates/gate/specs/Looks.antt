@@ -1,9 +1,7 @@
 -- What the engine looks at.
-use Rattle.std.specs.Prelude.{ℕ, ◌≤◌, ◌<◌, ◌≡◌, List, get_or}
+use Rattle.std.specs.Prelude.{ℕ, ◌≤◌, ◌<◌, ◌≡◌, List, get_or, Option, Some, None}
 use Rattle.meaning.specs.Refusals.{first_of_steps}
 use Rattle.answer.specs.declared.DimpsyholtAnswer.{DimpsyholtAnswer}
-use Rattle.gate.specs.declared.Start.{Start}
-use Rattle.gate.specs.declared.Start.TheVariants as start
 
 abbrev pub Opens : DimpsyholtAnswer → Type 0
 Opens a = (a.kind ≡ 1) × (a.conclusion ≡ 3)
@@ -14,6 +12,6 @@ OpensAgain was again = (was.kind ≡ 1) × (again.kind ≡ 0 → ⊥) × (again.
 abbrev pub Early : DimpsyholtAnswer → Type 0
 Early a = (a.kind ≡ 0) × (a.number < first_of_steps)
 
-abbrev pub PlaceOf : DimpsyholtAnswer → ℕ → List ℕ → Start → Type 0
-PlaceOf a k places (start.At p) = (a.kind ≡ 0) × (first_of_steps ≤ a.number) × (k < a.step) × (p ≡ get_or places k 0)
-PlaceOf a k places start.Unknown = Unit {0}
+abbrev pub PlaceOf : DimpsyholtAnswer → ℕ → List ℕ → Option ℕ → Type 0
+PlaceOf a k places (Some p) = (a.kind ≡ 0) × (first_of_steps ≤ a.number) × (k < a.step) × (p ≡ get_or places k 0)
+PlaceOf a k places None = Unit {0}

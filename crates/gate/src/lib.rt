@@ -1,67 +1,46 @@
-// What an engine looks at in an answer, before it opens its gate or takes a place for the start of a step.
+// What an engine looks at in an answer, before it opens its gate or takes a place for the start of a step. The answer is that of the C
+// interface, so its kinds are numbers.
 #![tactic(auto)]
 
 ghost use Rattle.std.specs.Prelude.{◌≡◌, true};
 ghost use Rattle.gate.specs.Looks.{Opens, OpensAgain, Early, PlaceOf};
 
-use answer::DimpsyholtAnswer;
-use reading::refusals::NO_CONCLUSION;
+use answer::{ConclusionKind, DimpsyholtAnswer, Kind};
+use reading::refusals::Reason;
 
-// Where a step of the log begins, as far as the places say.
-#[derive(Clone, Copy)]
-pub enum Start {
-    At(u32),
-    Unknown,
-}
+// The first number that a step can have.
+const FIRST_OF_STEPS: u32 = Reason::NoConclusion as u32;
 
 // Accepted, with "no assignment".
 pub fn opens(a: DimpsyholtAnswer) -> bool
     ensures { result ≡ true → Opens a }
 {
-    if a.kind != 1 {
-        return false;
-    }
-    a.conclusion == 3
+    a.kind == Kind::Accepted as u32 && a.conclusion == ConclusionKind::NoAssignment as u32
 }
 
 // Accepted before; now accepted or carried, with "no assignment".
 pub fn opens_again(was: DimpsyholtAnswer, again: DimpsyholtAnswer) -> bool
     ensures { result ≡ true → OpensAgain was again }
 {
-    if was.kind != 1 {
-        return false;
-    }
-    if again.kind == 0 {
-        return false;
-    }
-    again.conclusion == 3
+    was.kind == Kind::Accepted as u32
+        && again.kind != Kind::Refused as u32
+        && again.conclusion == ConclusionKind::NoAssignment as u32
 }
 
-// Refused before any step was read: NO_CONCLUSION is the first number that a step can have.
+// Refused before any step was read.
 pub fn is_early(a: DimpsyholtAnswer) -> bool
     ensures { result ≡ true → Early a }
 {
-    if a.kind != 0 {
-        return false;
-    }
-    a.number < NO_CONCLUSION
+    a.kind == Kind::Refused as u32 && a.number < FIRST_OF_STEPS
 }
 
 // The place of step k, where a refusal names a later step.
-pub fn place_of(a: DimpsyholtAnswer, k: usize, places: &[u32]) -> Start
+pub fn place_of(a: DimpsyholtAnswer, k: usize, places: &[u32]) -> Option<u32>
     ensures { PlaceOf a k places.now result }
 {
-    if a.kind != 0 {
-        return Start::Unknown;
+    if a.kind != Kind::Refused as u32 || a.number < FIRST_OF_STEPS || k >= a.step as usize {
+        return None;
     }
-    if a.number < NO_CONCLUSION {
-        return Start::Unknown;
-    }
-    if k >= a.step as usize {
-        return Start::Unknown;
-    }
-    if k >= places.len() {
-        return Start::Unknown;
-    }
-    Start::At(places[k])
+    let place = places.get(k)?;
+    Some(*place)
 }

@@ -40,6 +40,11 @@ module _ (log : List ℤ) (bs : List Bounds) (box : List Atom) (cells : List ℤ
       let i = atoms_first p n a in
       ap₂ ◌&&◌ (holds_left cells bs box agrees (nat_at log p) (int_at log (p + 1)) (int_at log (p + 2)) i.relation.0 i.relation.1) (holds_is n (p + 3) (atoms_rest p n a))
 
+-- the fact that the hint at p cites stands at f
+pub record Cites (v : ℕ) (log : List ℤ) (facts : ℕ → Fact) (p : ℕ) (f : FactPlace) : Type 0 where
+  pub known : FactIn v log f
+  pub is : facts (nat_at log p) ≡ fact_of log f
+
 -- ---- the loop over the hints
 module _ (v : ℕ) (log : List ℤ) (facts : ℕ → Fact) (hints many : ℕ) (before : List ℤ) where
   -- the hints' verdict, whatever the box stands for that the cells hold before the first hint
@@ -52,11 +57,12 @@ module _ (v : ℕ) (log : List ℤ) (facts : ℕ → Fact) (hints many : ℕ) (b
     pub holds : Holds log bs narrower (many - i) cells
     pub same : follow_hints bs facts box 0 (each_at nat_at 1 many log hints) ≡ follow_hints bs facts narrower i (each_at nat_at 1 (many - i) log (hints + i))
 
-  abbrev pub Sofar : List ℤ → ℕ → Type 0
-  Sofar cells i = (bs : List Bounds) (box : List Atom) → length bs ≡ v → Holds log bs box many before → Following bs box cells i
+  -- the same whatever the box stands for that they hold before the first
+  pub record Sofar (cells : List ℤ) (i : ℕ) : Type 0 where
+    pub so : (bs : List Bounds) (box : List Atom) → length bs ≡ v → Holds log bs box many before → Following bs box cells i
 
   pub at_first : Sofar before 0
-  at_first bs box e h = record { narrower = box; holds = rw sub-zero h; same = let q : hints + 0 ≡ hints = omega arith in rw (q, sub-zero) }
+  at_first = record { so = λ bs box e h. record { narrower = box; holds = rw sub-zero h; same = let q : hints + 0 ≡ hints = omega arith in rw (q, sub-zero) } }
 
   hints_more : (i : ℕ) → i < many → each_at nat_at 1 (many - i) log (hints + i) ≡ nat_at log (hints + i) ∷ each_at nat_at 1 (many - (i + 1)) log (hints + (i + 1))
   unfolding each_at
@@ -66,56 +72,63 @@ module _ (v : ℕ) (log : List ℤ) (facts : ℕ → Fact) (hints many : ℕ) (b
   unfolding each_at
   hints_none i h = let z : many - i ≡ 0 = omega arith in rw z
 
-  module _ (cells : List ℤ) (i : ℕ) (s : Sofar cells i) where
-    pub used_up : many ≤ i → Says (fails hints_used_up 0)
-    used_up h bs box e b = let g = s bs box e b in sym (g.same ∙ ap (follow_hints bs facts g.narrower i) (hints_none i h))
+-- before hint i
+module _ {v : ℕ} {log : List ℤ} {facts : ℕ → Fact} {hints many : ℕ} {before cells : List ℤ} {i : ℕ} (s : Sofar v log facts hints many before cells i) where
+  abbrev Told : Verdict → Type 0
+  Told = Says v log facts hints many before
 
-    -- hint i cites the fact that stands at f
-    module _ (h : i < many) (f : FactPlace) (known : FactIn v log f) (is : facts (nat_at log (hints + i)) ≡ fact_of log f) where
-      abbrev later : List Bounds → List Atom → Verdict
-      later bs narrower = follow_hints bs facts narrower (suc i) (each_at nat_at 1 (many - (i + 1)) log (hints + (i + 1)))
+  pub used_up : many ≤ i → Told (fails hints_used_up 0)
+  used_up h bs box e b = let g = s.so bs box e b in sym (g.same ∙ ap (follow_hints bs facts g.narrower i) (hints_none v log facts hints many before i h))
 
-      -- do the premises hold, and the consequent
-      taken : (bs : List Bounds) (box : List Atom) (e : length bs ≡ v) (b : Holds log bs box many before) (t : Bool) → holds_each log f.count f.premises cells ≡ t
-          → follow_hints bs facts box 0 (each_at nat_at 1 many log hints) ≡ take_hint bs (s bs box e b).narrower i t (fact_of log f).consequent (later bs)
-      taken bs box e b t q =
-          let g = s bs box e b in
-          let a = holds_is log bs g.narrower cells g.holds.agrees f.count f.premises (subst (λ n. AtomsIn n log f.premises f.count) (sym e) known.premise) in
-          g.same ∙ ap (follow_hints bs facts g.narrower i) (hints_more i h)
-          ∙ ap (λ c. take_hint bs g.narrower i (premises_hold bs g.narrower c.premises) c.consequent (later bs)) is
-          ∙ ap (λ c. take_hint bs g.narrower i c (fact_of log f).consequent (later bs)) (sym a ∙ q)
+  -- the hint cites the fact that stands at f
+  module _ (h : i < many) {f : FactPlace} (cites : Cites v log facts (hints + i) f) where
+    abbrev later : List Bounds → List Atom → Verdict
+    later bs narrower = follow_hints bs facts narrower (suc i) (each_at nat_at 1 (many - (i + 1)) log (hints + (i + 1)))
 
-      pub not_held : holds_each log f.count f.premises cells ≡ false → Says (fails hint_does_not_apply i)
-      not_held q bs box e b = sym (taken bs box e b false q)
+    -- do the premises hold, and the consequent
+    taken : (bs : List Bounds) (box : List Atom) (e : length bs ≡ v) (b : Holds log bs box many before) (t : Bool) → holds_each log f.premises.many f.premises.from cells ≡ t
+        → follow_hints bs facts box 0 (each_at nat_at 1 many log hints) ≡ take_hint bs (s.so bs box e b).narrower i t (fact_of log f).consequent (later bs)
+    taken bs box e b t q =
+        let g = s.so bs box e b in
+        let a = holds_is log bs g.narrower cells g.holds.agrees f.premises.many f.premises.from (subst (λ n. AtomsIn n log f.premises.from f.premises.many) (sym e) cites.known.premise) in
+        g.same ∙ ap (follow_hints bs facts g.narrower i) (hints_more v log facts hints many before i h)
+        ∙ ap (λ c. take_hint bs g.narrower i (premises_hold bs g.narrower c.premises) c.consequent (later bs)) cites.is
+        ∙ ap (λ c. take_hint bs g.narrower i c (fact_of log f).consequent (later bs)) (sym a ∙ q)
 
-      module _ (q : holds_each log f.count f.premises cells ≡ true) where
-        pub is_false : f.then ≡ 0 → Says passes
-        is_false z bs box e b = sym (taken bs box e b true q ∙ ap (λ n. take_hint bs (s bs box e b).narrower i true (then_at n log f.consequent) (later bs)) z)
+    pub not_held : holds_each log f.premises.many f.premises.from cells ≡ false → Told (fails hint_does_not_apply i)
+    not_held q bs box e b = sym (taken bs box e b false q)
 
-        module _ (z : f.then ≡ 1) where
-          abbrev narrow : List ℤ
-          narrow = narrowed_at log f.consequent cells
+    module _ (q : holds_each log f.premises.many f.premises.from cells ≡ true) where
+      pub is_false : f.consequent.many ≡ 0 → Told passes
+      is_false z bs box e b = sym (taken bs box e b true q ∙ ap (λ n. take_hint bs (s.so bs box e b).narrower i true (then_at n log f.consequent.from) (later bs)) z)
 
-          front : (bs : List Bounds) (box : List Atom) (e : length bs ≡ v) (b : Holds log bs box many before) → Holds log bs (atom_at log f.consequent ∷ (s bs box e b).narrower) (many - (i + 1)) narrow
-          front bs box e b =
-              let g = s bs box e b in
-              let m : many - i ≡ suc (many - (i + 1)) = omega arith in
-              holds_front log bs f.consequent (many - (i + 1)) g.narrower cells (subst (λ n. AtomIn n log f.consequent) (sym e) (known.consequence z)) (subst (λ n. Holds log bs g.narrower n cells) m g.holds)
+      module _ (z : f.consequent.many ≡ 1) where
+        abbrev narrow : List ℤ
+        narrow = narrowed_at log f.consequent.from cells
 
-          step : (bs : List Bounds) (box : List Atom) (e : length bs ≡ v) (b : Holds log bs box many before) (t : Bool) → empty_at log f.consequent narrow ≡ t
-              → follow_hints bs facts box 0 (each_at nat_at 1 many log hints) ≡ unless_emptied t (atom_at log f.consequent ∷ (s bs box e b).narrower) (later bs)
-          step bs box e b t y =
-              let g = s bs box e b in
-              taken bs box e b true q ∙ ap (λ n. take_hint bs g.narrower i true (then_at n log f.consequent) (later bs)) z
-              ∙ ap (λ c. unless_emptied c (atom_at log f.consequent ∷ g.narrower) (later bs)) (sym (empty_left narrow bs (atom_at log f.consequent ∷ g.narrower) (front bs box e b).agrees (nat_at log f.consequent)) ∙ y)
+        front : (bs : List Bounds) (box : List Atom) (e : length bs ≡ v) (b : Holds log bs box many before) → Holds log bs (atom_at log f.consequent.from ∷ (s.so bs box e b).narrower) (many - (i + 1)) narrow
+        front bs box e b =
+            let g = s.so bs box e b in
+            let m : many - i ≡ suc (many - (i + 1)) = omega arith in
+            holds_front log bs f.consequent.from (many - (i + 1)) g.narrower cells (subst (λ n. AtomIn n log f.consequent.from) (sym e) (cites.known.consequence z)) (subst (λ n. Holds log bs g.narrower n cells) m g.holds)
 
-          pub emptied : empty_at log f.consequent narrow ≡ true → Says passes
-          emptied y bs box e b = sym (step bs box e b true y)
+        step : (bs : List Bounds) (box : List Atom) (e : length bs ≡ v) (b : Holds log bs box many before) (t : Bool) → empty_at log f.consequent.from narrow ≡ t
+            → follow_hints bs facts box 0 (each_at nat_at 1 many log hints) ≡ unless_emptied t (atom_at log f.consequent.from ∷ (s.so bs box e b).narrower) (later bs)
+        step bs box e b t y =
+            let g = s.so bs box e b in
+            taken bs box e b true q ∙ ap (λ n. take_hint bs g.narrower i true (then_at n log f.consequent.from) (later bs)) z
+            ∙ ap (λ c. unless_emptied c (atom_at log f.consequent.from ∷ g.narrower) (later bs)) (sym (empty_left narrow bs (atom_at log f.consequent.from ∷ g.narrower) (front bs box e b).agrees (nat_at log f.consequent.from)) ∙ y)
 
-          pub narrowed_on : empty_at log f.consequent narrow ≡ false → Sofar narrow (i + 1)
-          narrowed_on y bs box e b =
-              record {
-                narrower = atom_at log f.consequent ∷ (s bs box e b).narrower;
-                holds = front bs box e b;
-                same = step bs box e b false y ∙ ap (λ n. follow_hints bs facts (atom_at log f.consequent ∷ (s bs box e b).narrower) n (each_at nat_at 1 (many - (i + 1)) log (hints + (i + 1)))) (sym (add-one i));
-              }
+        pub emptied : empty_at log f.consequent.from narrow ≡ true → Told passes
+        emptied y bs box e b = sym (step bs box e b true y)
+
+        pub narrowed_on : empty_at log f.consequent.from narrow ≡ false → Sofar v log facts hints many before narrow (i + 1)
+        narrowed_on y =
+            record {
+              so = λ bs box e b.
+                  record {
+                    narrower = atom_at log f.consequent.from ∷ (s.so bs box e b).narrower;
+                    holds = front bs box e b;
+                    same = step bs box e b false y ∙ ap (λ n. follow_hints bs facts (atom_at log f.consequent.from ∷ (s.so bs box e b).narrower) n (each_at nat_at 1 (many - (i + 1)) log (hints + (i + 1)))) (sym (add-one i));
+                  };
+            }

@@ -48,7 +48,19 @@ filled_box model log cells bs f v e =
     let fits : 2 * length bs + 2 ≤ length cells = omega arith in
     holds_filled log bs f most_hints model cells i (record { agrees = agrees_loaded model 1 cells bs given known fits; room = loaded_room model 1 (length bs) cells fits (suc (most_premises + most_hints)) (omega arith) (omega arith) }))
 
-module _ (model log cells : List ℤ) (v : ℕ) (f : FactPlace) (plan : Declared model v) (i : FactIn v log f) (room : box_room v ≤ length cells) where
+-- what is asked where the box of a fact is made
+pub record Asked (model log cells : List ℤ) (v : ℕ) (f : FactPlace) : Type 0 where
+  pub plan : Declared model v
+  pub known : FactIn v log f
+  pub room : box_room v ≤ length cells
+
+pub asked_of_declared : {model log cells : List ℤ} {v : ℕ} {f : FactPlace} → Declared model v → FactIn v log f → box_room v ≤ length cells → Asked model log cells v f
+asked_of_declared p i r = record { plan = p; known = i; room = r }
+
+pub asked_of : {model log cells : List ℤ} {starts : List ℕ} {v c : ℕ} {f : FactPlace} → Planned model starts v c → FactIn v log f → box_room v ≤ length cells → Asked model log cells v f
+asked_of p i r = asked_of_declared (declared p) i r
+
+module _ {model log cells : List ℤ} {v : ℕ} {f : FactPlace} (asked : Asked model log cells v f) where
   abbrev box : List Atom
   box = box_of (fact_of log f)
 
@@ -59,13 +71,13 @@ module _ (model log cells : List ℤ) (v : ℕ) (f : FactPlace) (plan : Declared
   full = filled model v log f cells
 
   pub holds : Holds log bounds box most_hints full
-  holds = filled_box model log cells bounds f v plan.variables plan.bounds plan.known i room
+  holds = filled_box model log cells bounds f v asked.plan.variables asked.plan.bounds asked.plan.known asked.known asked.room
 
   pub full_formed : Formed full
   full_formed = holds.agrees.formed
 
   pub full_variables : variables full ≡ v
-  full_variables = holds.agrees.counted ∙ plan.variables
+  full_variables = holds.agrees.counted ∙ asked.plan.variables
 
   -- as many places as there are hints
   pub full_holds : (many : ℕ) → many ≤ most_hints → Holds log bounds box many full
@@ -75,14 +87,14 @@ module _ (model log cells : List ℤ) (v : ℕ) (f : FactPlace) (plan : Declared
   full_boxed many h = record { formed = full_formed; counted = full_variables; room = (full_holds many h).room }
 
   pub full_empty : box_empty log f full ≡ any_empty bounds box (length bounds)
-  full_empty = box_empty_is log full bounds f (subst (λ n. FactIn n log f) (sym plan.variables) i) holds.agrees
+  full_empty = box_empty_is log full bounds f (subst (λ n. FactIn n log f) (sym asked.plan.variables) asked.known) holds.agrees
 
   pub ready : box_empty log f full ≡ false → Ready full
   ready e =
       record {
         formed = full_formed;
         some_left = all_some full bounds box holds.agrees (sym full_empty ∙ e);
-        small = all_small full bounds box holds.agrees plan.known;
+        small = all_small full bounds box holds.agrees asked.plan.known;
       }
 
   -- ---- an inference that cites row r

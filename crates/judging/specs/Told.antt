@@ -1,8 +1,9 @@
 -- What a verdict tells: document 01's number and position of a refusal.
+use Rattle.std.specs.Prelude.{Result, Ok, Err}
 use Rattle.meaning.specs.Judge as judge
-use Rattle.judging.specs.declared.Verdict.{Verdict}
-use Rattle.judging.specs.declared.Verdict.TheVariants as verdict
+use Rattle.reading.specs.Reasons.{number_of}
+use Rattle.reading.specs.declared.refusals.Refusal.{Refusal}
 
-abbrev pub told_verdict : Verdict → judge.Verdict
-told_verdict verdict.Passes = judge.passes
-told_verdict (verdict.Fails num p) = judge.fails num p
+abbrev pub told_verdict : Result (Unit {0}) Refusal → judge.Verdict
+told_verdict (Ok u) = judge.passes
+told_verdict (Err e) = judge.fails (number_of e.reason) e.position

@@ -6,18 +6,17 @@ ghost use Rattle.meaning.specs.Judge.{judge_inference};
 ghost use Rattle.meaning.specs.Rule.{conflicts};
 ghost use Rattle.domain.specs.Box.{variables, values};
 ghost use Rattle.model.specs.Rows.{RowIn, row_at};
-ghost use Rattle.rule_facts.specs.Ready.{Ready};
-ghost use Rattle.model.specs.Planned.{model_of, Planned};
+ghost use Rattle.model.specs.Planned.{model_of};
 ghost use Rattle.steps.specs.Facts.{FactIn, fact_of};
 ghost use Rattle.boxes.specs.Boxes.{box_room};
-ghost use Rattle.judging.specs.Judged.{rows_of};
 ghost use Rattle.judging.specs.Told.{told_verdict};
 
-use crate::Verdict;
-use boxes;
 use boxes::occurrences;
+use domain::Cells;
+use model::Plan;
 use reading::limits::MOST_VARIABLES;
-use reading::refusals::{BOX_EMPTY, ROW_DOES_NOT_CONFLICT};
+use reading::refusals::{Reason, Refusal};
+use rule_facts::ReadyCells;
 use rules;
 use steps::FactPlace;
 use words::RowNo;
@@ -26,35 +25,37 @@ use words::RowNo;
 const MARK_WORDS: usize = (MOST_VARIABLES + 63) / 64;
 
 // Does the row whose kind stands at a position conflict with the box of the fact?
-fn row_conflicts(model: &[i32], at: usize, log: &[i32], fact: FactPlace, cells: &[i32]) -> bool
-    requires { RowIn (variables cells.now) model.now at × FactIn (variables cells.now) log.now fact × (variables cells.now ≤ most_variables) × Ready cells.now }
-    ensures { result ≡ conflicts (fact_of log.now fact) (values cells.now) (row_at model.now at) }
+fn row_conflicts(
+    model: &[i32],
+    at: usize,
+    log: &[i32],
+    fact: FactPlace,
+    ready: ReadyCells<'_>,
+) -> bool
+    requires { RowIn (variables ready.cells.words.now) model.now at × FactIn (variables ready.cells.words.now) log.now fact × (variables ready.cells.words.now ≤ most_variables) }
+    ensures { result ≡ conflicts (fact_of log.now fact) (values ready.entry.cells.words.now) (row_at model.now at) }
 {
     let mut occurring = [0u64; MARK_WORDS];
     occurrences::mark_where_asked(model, at, log, fact, &mut occurring);
-    rules::conflicts(model, at, &occurring, cells)
+    rules::conflicts(model, at, &occurring, ready)
 }
 
 pub fn inference(
-    model: &[i32],
-    starts: &[u32],
-    v: usize,
+    plan: Plan,
     r: RowNo,
     log: &[i32],
     fact: FactPlace,
     cells: &mut [i32],
-) -> Verdict
-    requires { Planned model.now starts.now v (rows_of model.now) × (r.0 < rows_of model.now) × FactIn v log.now fact × (box_room v ≤ length cells.old) }
-    ensures { told_verdict result ≡ judge_inference (model_of model.now).bounds (judge.row_at (model_of model.now) r.0) (fact_of log.now fact) }
+) -> Result<(), Refusal>
+    requires { (r.0 < plan.rows) × FactIn plan.variables log.now fact × (box_room plan.variables ≤ length cells.old) }
+    ensures { told_verdict result ≡ judge_inference (model_of plan.entry.words.now).bounds (judge.row_at (model_of plan.entry.words.now) r.0) (fact_of log.now fact) }
 {
-    boxes::fill(model, v, log, fact, &mut *cells);
-    if boxes::is_box_empty(log, fact, &*cells) {
-        return Verdict::Fails(BOX_EMPTY, 0);
+    crate::fill_box(plan.words, plan.variables, log, fact, cells)?;
+    let at = plan.starts[r.0] as usize;
+    let cells = Cells { words: &*cells };
+    let ready = ReadyCells { cells };
+    if row_conflicts(plan.words, at, log, fact, ready) {
+        return Ok(());
     }
-    let i = r.0;
-    let at = starts[i] as usize;
-    if row_conflicts(model, at, log, fact, &*cells) {
-        return Verdict::Passes;
-    }
-    Verdict::Fails(ROW_DOES_NOT_CONFLICT, 0)
+    Err(Reason::RowDoesNotConflict.at(0))
 }

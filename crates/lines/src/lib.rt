@@ -1,159 +1,116 @@
-// Lines of a text: a place in it, and the whole numbers that are written there.
+// Lines of a text: where they end, and the whole numbers that are written there. A text is given from the place on that is looked at.
 #![tactic(auto)]
 
 ghost use Rattle.std.specs.Io.KnownBytes.{Consumes, IsAtEnd};
-ghost use Rattle.std.specs.Prelude.{◌≤◌, ◌<◌, length, ◌≡◌, IfOk, take};
+ghost use Rattle.std.specs.Prelude.{◌≤◌, ◌<◌, length, ◌≡◌, ◌==◌, IfOk, IfSome, take, position};
 
 use std::io;
 use std::io::Read;
 
-#[derive(Clone, Copy)]
-pub enum Word {
-    Is(i32, usize),
-    Nothing,
-}
+// A number above this takes no further digit: with one more it is no word.
+const MOST_SIZE: usize = 300000000;
 
-// The first place from here that has this byte, or the end.
-pub fn find(text: &[u8], from: usize, byte: u8) -> usize {
-    let mut at = from;
-    while at < text.len() {
-        if text[at] == byte {
-            return at;
-        }
-        at += 1;
-    }
-    at
-}
-
-// The first place from here that has no space.
-fn past_spaces(text: &[u8], from: usize) -> usize {
-    let mut at = from;
-    while at < text.len() {
-        if text[at] != 32 {
-            return at;
-        }
-        at += 1;
-    }
-    at
-}
-
-// Ten stands for no digit.
-fn digit(byte: u8) -> usize
-    ensures { result ≤ 10 }
+// The first place that has this byte.
+pub fn find(text: &[u8], byte: u8) -> Option<usize>
+    ensures { result ≡ position (λ b. b == byte) text.now }
 {
-    if byte < 48 {
-        return 10;
-    }
-    if byte > 57 {
-        return 10;
-    }
-    (byte - 48) as usize
+    text.iter().position(|b| *b == byte)
 }
 
-// A word, of which the size is told. What is no word is told as 0.
+// The text from the next line on, nothing where no line follows.
+pub fn next_line(text: &[u8]) -> &[u8]
+    ensures { 0 < length text.now → length result.now < length text.now }
+{
+    match find(text, b'\n') {
+        Some(end) => &text[end + 1..],
+        None => &[],
+    }
+}
+
+// The digit that a text begins with, and the text behind it.
+fn digit(text: &[u8]) -> Option<(usize, &[u8])>
+    ensures { IfSome result (λ d. (d.0 ≤ 9) × (length d.1.now < length text.now)) }
+{
+    let (byte, rest) = text.split_first()?;
+    match *byte {
+        b'0'..=b'9' => Some(((*byte - b'0') as usize, rest)),
+        _ => None,
+    }
+}
+
+// The word of a size. Too large a size is told as 0, or as the least word where it is negative.
 fn signed(size: usize, negative: bool) -> i32 {
+    let word = i32::try_from(size);
     if negative {
-        if size < 2147483648 {
-            return 0 - size as i32;
-        }
-        return -2147483648;
+        word.map_or(i32::MIN, |n| -n)
+    } else {
+        word.unwrap_or(0)
     }
-    if size < 2147483648 {
-        return size as i32;
-    }
-    0
 }
 
-// The digits from here.
-fn digits(text: &[u8], from: usize, negative: bool) -> Word {
-    let mut at = from;
+// The number that a text begins with, 0 where no digit stands there, and the text behind it.
+fn digits(text: &[u8], negative: bool) -> Option<(i32, &[u8])> {
+    let mut rest = text;
     let mut size: usize = 0;
-    while at < text.len() {
-        let d = digit(text[at]);
-        if d == 10 {
-            return Word::Is(signed(size, negative), at);
-        }
-        if size > 300000000 {
-            return Word::Nothing;
+    while let Some((d, after)) = digit(rest) {
+        if size > MOST_SIZE {
+            return None;
         }
         size = size * 10 + d;
-        at += 1;
+        rest = after;
     }
-    Word::Is(signed(size, negative), at)
+    Some((signed(size, negative), rest))
 }
 
-// The next word of the line, and the place after it.
-pub fn next_word(text: &[u8], from: usize) -> Word {
-    let at = past_spaces(text, from);
-    if text.len() <= at {
-        return Word::Nothing;
+// The next word of the line, and the text behind it.
+pub fn next_word(text: &[u8]) -> Option<(i32, &[u8])> {
+    let start = text.iter().position(|b| *b != b' ')?;
+    match &text[start..] {
+        [b'\n', ..] => None,
+        [b'-', size @ ..] => digits(size, true),
+        size => digits(size, false),
     }
-    let byte = text[at];
-    if byte == 10 {
-        return Word::Nothing;
-    }
-    if byte == 45 {
-        return digits(text, at + 1, true);
-    }
-    digits(text, at, false)
 }
 
-// So many copies of a word are put into a table from a place on, but not past an end: the place after them.
-fn put(words: &mut [i32], from: usize, upto: usize, value: i32, times: usize) -> usize
-    requires { (from ≤ upto) × (upto ≤ length words.old) }
-    ensures { (from ≤ result) × (result ≤ upto) × (length words.new ≡ length words.old) }
+// How often the word before a text stands there, by `*` and a number, else once, and the text behind that.
+fn times(text: &[u8]) -> Option<(usize, &[u8])> {
+    match text {
+        [b'*', many @ ..] => digits(many, false).map(|(n, rest)| (number(n), rest)),
+        _ => Some((1, text)),
+    }
+}
+
+// So many copies of a word are put at the front of a table, as far as it has room: how many they are.
+fn put(words: &mut [i32], value: i32, times: usize) -> usize
+    ensures { (result ≤ length words.new) × (length words.new ≡ length words.old) }
 {
-    let mut n = from;
-    let mut left = times;
-    while 0 < left {
-        if upto <= n {
-            return n;
-        }
-        words[n] = value;
-        n += 1;
-        left -= 1;
-    }
+    let n = times.min(words.len());
+    words[..n].fill(value);
     n
 }
 
-// How often the word before a place stands there: `*` and a number, else once.
-fn times_at(text: &[u8], at: usize) -> Word {
-    if at < text.len() {
-        if text[at] == b'*' {
-            return digits(text, at + 1, false);
-        }
-    }
-    Word::Is(1, at)
-}
-
-// The words of a line are put into a table from a place on, but not past an end: the place after them. `7*100` stands for a hundred words 7.
-pub fn fill(text: &[u8], at: usize, words: &mut [i32], from: usize, upto: usize) -> usize
-    requires { (from ≤ upto) × (upto ≤ length words.old) }
-    ensures { (from ≤ result) × (result ≤ upto) × (length words.new ≡ length words.old) }
+// The words of a line are put into a table, as far as it has room: how many they are. `7*100` stands for a hundred words 7.
+pub fn fill(text: &[u8], words: &mut [i32]) -> usize
+    ensures { (result ≤ length words.new) × (length words.new ≡ length words.old) }
 {
-    let mut here = at;
-    let mut n = from;
-    while here < text.len() {
-        let w = next_word(text, here);
-        let Word::Is(value, next) = w else {
+    let mut rest = text;
+    let mut n: usize = 0;
+    while let Some((value, behind)) = next_word(rest) {
+        let Some((many, after)) = times(behind) else {
             return n;
         };
-        let t = times_at(text, next);
-        let Word::Is(times, after) = t else {
-            return n;
-        };
-        n = put(&mut *words, n, upto, value, number(times));
-        if after <= here {
+        n += put(&mut words[n..], value, many);
+        if rest.len() <= after.len() {
             return n;
         }
-        here = after;
+        rest = after;
     }
     n
 }
 
 // The number that a word is, 0 where it is negative.
 pub fn number(w: i32) -> usize {
-    if w < 0 { 0 } else { words::index(w) }
+    usize::try_from(w).unwrap_or(0)
 }
 
 // Reads until the room is full or the input ends, and says how much was read: so much of the room then is what the reader had next. A read

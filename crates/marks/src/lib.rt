@@ -1,4 +1,4 @@
-// A set of numbers in a lent table of 64-bit words, a bit for each number.
+// A set of numbers in a lent table of 64-bit words, a bit for each number: there is no heap for a set of std's.
 #![tactic(auto)]
 
 ghost use Rattle.std.specs.Prelude.{◌≡◌, ◌*◌, ◌<◌, length};
@@ -9,8 +9,7 @@ pub fn holds(set: &[u64], n: usize) -> bool
     requires { n < 64 * length set.now }
     ensures { result ≡ marked set.now n }
 {
-    let w = set[n / 64];
-    (w >> (n % 64)) % 2 == 1
+    (set[n / 64] >> (n % 64)) % 2 == 1
 }
 
 // The set has n from now on.
@@ -18,7 +17,5 @@ pub fn add(n: usize, set: &mut [u64])
     requires { n < 64 * length set.old }
     ensures { set.new ≡ added set.old n }
 {
-    let k = n / 64;
-    let w = set[k];
-    set[k] = w | (1 << (n % 64));
+    set[n / 64] |= 1 << (n % 64);
 }

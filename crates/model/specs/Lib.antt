@@ -6,3 +6,4 @@ pub mod Only
 pub mod Laws
 pub mod RowWords
 pub mod Planned
+pub mod OnePlan

@@ -1,5 +1,5 @@
 -- A good model in its table: what the parts that judge a log against it rely on.
-use Rattle.std.specs.Prelude.{ℕ, ◌+◌, ◌*◌, ◌≤◌, ◌<◌, ◌≡◌, refl, List, [], ℤ, pos, length, get_or, drop}
+use Rattle.std.specs.Prelude.{ℕ, ◌+◌, ◌*◌, ◌≤◌, ◌<◌, ◌≡◌, refl, List, [], ℤ, pos, length, get_or, drop, Ok, Err}
 use Rattle.std.proofs.Common.{sym, ap, ◌∙◌, arith}
 use Rattle.std.proofs.lemmas.List.Edits.{sets}
 use Rattle.std.proofs.Math.Seq.{length-sets}
@@ -12,9 +12,9 @@ use Rattle.meaning.proofs.Proved.ReadModel.{KnownBounds, known_model}
 use Rattle.reading.specs.At.{each_at}
 use Rattle.reading.specs.Reading.{skim_got, skim_refused}
 use Rattle.reading.specs.Told.{Skims}
-use Rattle.reading.specs.Over.{is_over, is_refused}
-use Rattle.reading.specs.declared.Past.{Past}
-use Rattle.reading.specs.declared.Past.TheVariants as past
+use Rattle.reading.specs.Reasons.{number_of}
+use Rattle.reading.specs.Over.{is_over}
+use Rattle.reading.specs.declared.refusals.Refusal.{Refusal}
 use Rattle.model.specs.Rows.{bounds_at, row_at, RowIn}
 use Rattle.model.specs.Starts.{model_starts}
 use Rattle.model.specs.Laws.{Good, good_model, few_rows, start_of, row_at_start, row_in, refused_inside}
@@ -47,9 +47,9 @@ pub record Modelled (s : List ℤ) : Type 0 where
   pub is : read_model 0 s ≡ got (model_of s) next (drop next s)
   pub good : Good s (model_of s)
 
-pub modelled : {s : List ℤ} {p : Past} {n : ℕ} → Skims read_model s 0 p → p ≡ past.Next n → Modelled s
-modelled {s} {n = n} h e =
-    let (m, q) = skim_got (read_model 0 s) (is_over h e) in
+pub modelled : {s : List ℤ} {n : ℕ} → Skims read_model s 0 (Ok n) → Modelled s
+modelled {s} {n} h =
+    let (m, q) = skim_got (read_model 0 s) (is_over h) in
     let k : read_model 0 s ≡ got (model_of s) n (drop n s) = q ∙ ap (λ (x : Model). got x n (drop n s)) (sym (ap the_model q)) in
     record { next = n; is = k; good = good_model s k }
 
@@ -59,8 +59,8 @@ pub record Unread (s : List ℤ) (num p : ℕ) : Type 0 where
   pub number : (4 ≤ num) × (num ≤ 7)
   pub inside : p ≤ length s
 
-pub unread : {s : List ℤ} {a : Past} {num p : ℕ} → Skims read_model s 0 a → a ≡ past.Refused num p → Unread s num p
-unread {s} h e = let q = skim_refused (read_model 0 s) (is_refused h e) in let r = refused_inside s q in record { is = q; number = (r.0, r.1); inside = r.2 }
+pub unread : {s : List ℤ} {e : Refusal} → Skims read_model s 0 (Err e) → Unread s (number_of e.reason) e.position
+unread {s} h = let q = skim_refused (read_model 0 s) (sym h.told) in let r = refused_inside s q in record { is = q; number = (r.0, r.1); inside = r.2 }
 
 -- as the reading leaves it: the first entries of the table of starts were set
 pub planned : {s : List ℤ} (l : List ℕ) → Modelled s → most_rows ≤ length l → Planned s (sets l 0 (model_starts s)) (length (model_of s).bounds) (length (model_of s).rows)

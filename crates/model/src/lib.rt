@@ -4,50 +4,67 @@
 mod bounds;
 mod rows;
 
-ghost use Rattle.std.specs.Prelude.{◌≡◌, ◌≤◌, length};
+ghost use Rattle.std.specs.Prelude.{◌≡◌, ◌≤◌, length, Err, MatchResult};
 ghost use Rattle.std.proofs.lemmas.List.Edits.{sets};
 ghost use Rattle.meaning.specs.Limits.{most_rows};
 ghost use Rattle.meaning.specs.Model.{read_model};
 ghost use Rattle.reading.specs.Told.{Skims};
 ghost use Rattle.model.specs.RowWords.{RowBegins, row_size};
 ghost use Rattle.model.specs.Starts.{model_starts};
-ghost use Rattle.model.specs.Planned.{model_of, Modelled};
+ghost use Rattle.model.specs.Planned.{model_of, Modelled, Planned};
+ghost use Rattle.model.specs.OnePlan.{planned_prop};
 
-use one_row::table;
 use reading;
-use reading::Past;
+use reading::MODEL;
+use reading::counts::Count;
+use reading::kinds::RowKind;
 use reading::limits::{MOST_ROWS, MOST_VARIABLES};
-use reading::refusals::WORDS_AFTER_MODEL;
+use reading::refusals::{Reason, Refusal};
+
+// A good model: its words, where each of its rows begins, and how many variables and rows it has. The table of starts is lent with room for the
+// most rows.
+#[derive(Clone, Copy)]
+pub struct Plan<'a> {
+    pub words: &'a [i32],
+    pub starts: &'a [u32],
+    pub variables: usize,
+    pub rows: usize,
+    pub ghost planned: { Planned words.now starts.now variables rows } by { planned_prop words.now starts.now variables rows },
+}
+
+impl<'a> Plan<'a> {
+    // The plan that a table holds. The first word of each row is noted in `starts`.
+    pub fn read(model: &'a [i32], starts: &'a mut [u32]) -> Result<Plan<'a>, Refusal>
+        requires { (length model.now ≤ 65536) × (most_rows ≤ length starts.old) }
+        ensures { MatchResult result (λ plan. (plan.words.now ≡ model.now) × Modelled model.now) (λ e. Skims read_model model.now 0 (Err e)) }
+    {
+        read_model(model, &mut *starts)?;
+        Ok(Plan {
+            words: model,
+            starts,
+            variables: variables_of(model),
+            rows: rows_of(model),
+        })
+    }
+}
 
 // The whole model.
-pub fn read_model(s: &[i32], starts: &mut [u32]) -> Past
+pub fn read_model(s: &[i32], starts: &mut [u32]) -> Result<usize, Refusal>
     requires { (length s.now ≤ 65536) × (most_rows ≤ length starts.old) }
     ensures read { Skims read_model s.now 0 result }
     ensures noted { starts.new ≡ sets starts.old 0 (model_starts s.now) }
 {
-    let g = table::number(s, 0, 1, MOST_VARIABLES);
-    let Past::Next(first) = g else {
-        return g;
-    };
+    let first = MODEL.number(s, 0, 1, MOST_VARIABLES)?;
     let v = reading::number_at(s, 0);
-    let b = bounds::pairs(s, first, v);
-    let Past::Next(n) = b else {
-        return b;
-    };
-    let h = table::number(s, n, 0, MOST_ROWS);
-    let Past::Next(from) = h else {
-        return h;
-    };
+    let n = bounds::pairs(s, first, v)?;
+    let from = MODEL.number(s, n, 0, MOST_ROWS)?;
     let c = reading::number_at(s, n);
-    let p = rows::rows(s, from, c, v, starts);
-    let Past::Next(end) = p else {
-        return p;
-    };
+    let end = rows::rows(s, from, Count { n: v }, &mut starts[..c])?;
     let more = end < s.len();
     if more {
-        return Past::Refused(WORDS_AFTER_MODEL, end);
+        return Err(Reason::WordsAfterModel.at(end));
     }
-    p
+    Ok(end)
 }
 
 // ---- what the words say, where they were read well before
@@ -74,13 +91,10 @@ pub fn row_size(s: &[i32], start: usize) -> usize
     requires { RowBegins s.now start }
     ensures { result ≡ row_size s.now start }
 {
-    let kind = reading::number_at(s, start);
     let n = reading::number_at(s, start + 1);
-    if kind == 1 {
-        return 3 + n * 2;
+    match RowKind::from(reading::number_at(s, start)) {
+        RowKind::Linear => 3 + n * 2,
+        RowKind::Cumulative => 3 + n * 3,
+        RowKind::AllDifferent | RowKind::Circuit => 2 + n,
     }
-    if kind == 3 {
-        return 3 + n * 3;
-    }
-    2 + n
 }

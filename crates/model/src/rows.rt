@@ -7,23 +7,19 @@ ghost use Rattle.reading.specs.Told.{Skims};
 ghost use Rattle.model.specs.Starts.{row_starts};
 
 use one_row;
-use reading::Past;
+use reading::counts::Count;
+use reading::refusals::Refusal;
 
-pub fn rows(s: &[i32], from: usize, c: usize, v: usize, starts: &mut [u32]) -> Past
-    requires { (v ≤ 65536) × (c ≤ length starts.old) × (length s.now ≤ 65536) × (from ≤ length s.now) }
-    ensures read { Skims (times c (row v)) s.now from result }
-    ensures noted { starts.new ≡ sets starts.old 0 (row_starts v c from (drop from s.now)) }
+// As many rows as the table of starts is long.
+pub fn rows(s: &[i32], from: usize, v: Count, starts: &mut [u32]) -> Result<usize, Refusal>
+    requires { (length s.now ≤ 65536) × (from ≤ length s.now) }
+    ensures read { Skims (times (length starts.old) (row v.n)) s.now from result }
+    ensures noted { starts.new ≡ sets starts.old 0 (row_starts v.n (length starts.old) from (drop from s.now)) }
 {
     let mut at = from;
-    let mut i = 0;
-    while i < c {
-        starts[i] = at as u32;
-        let p = one_row::row(s, at, v);
-        let Past::Next(next) = p else {
-            return p;
-        };
-        at = next;
-        i += 1;
+    for start in starts.iter_mut() {
+        *start = at as u32;
+        at = one_row::row(s, at, v)?;
     }
-    Past::Next(at)
+    Ok(at)
 }

@@ -4,7 +4,7 @@ use Rattle.std.proofs.Common.{sym, ◌∙◌, arith, ltb-true, ltb-false, eqb-tr
 use Rattle.std.proofs.Math.Path.{ap, ap₂, fun_ext}
 use Rattle.std.proofs.Math.Logic.{⊎_elim}
 use Rattle.std.proofs.Math.Bool.{false}
-use Rattle.std.proofs.Math.Option.{Option, none, some}
+use Rattle.std.specs.Prelude.{Option, None, Some}
 use mathlib.Core.List.Memᴰ.{not-nil as not-in-nil}
 use mathlib.Core.List.{List, [], ◌∷◌, Memᴰ as In}
 use Rattle.std.proofs.lemmas.Bool.{not-true, eqb-false}
@@ -23,6 +23,8 @@ use Rattle.domain.specs.Box.{variables, holes, low_place, high_place, hole_place
 use Rattle.domain.specs.Box.Walk.{hole_step}
 use Rattle.domain.specs.Box.Same.{hole_same, values_same}
 use Rattle.domain.specs.Box.Answers.{first_is, last_is, ends_first, ends_last}
+use Rattle.domain.specs.declared.relation.Relation.{Relation}
+use Rattle.domain.specs.Relations.{code, relation_of, by_code, stands_code}
 use Rattle.narrowing.specs.Narrow.{Room, between, bounded, excluded, holed, inside, marked, narrowed, opposite, put, shifted, squeezed, standing}
 
 -- ---- a relation's opposite says the contrary
@@ -83,9 +85,9 @@ put_same cells d x l h = rw (← l, ← h) (ap (λ e. set e (high_place x) (high
 
 -- whatever the ends are
 bounded_put : (P : List ℤ → Type 0) (cells : List ℤ) (x : ℕ) (l g : Option ℤ) → ((a b : ℤ) → P (put cells x a b)) → P (bounded cells x l g)
-bounded_put P cells x none g h = h (pos 1) (pos 0)
-bounded_put P cells x (some a) none h = h (pos 1) (pos 0)
-bounded_put P cells x (some a) (some b) h = h a b
+bounded_put P cells x None g h = h (pos 1) (pos 0)
+bounded_put P cells x (Some a) None h = h (pos 1) (pos 0)
+bounded_put P cells x (Some a) (Some b) h = h a b
 
 -- ---- one more hole
 module _ (cells : List ℤ) (x : ℕ) (a : ℤ) (room : Room cells 1) where
@@ -332,7 +334,7 @@ module _ (cells : List ℤ) (x : ℕ) (a : ℤ) where
           (λ t. let n : v ≡ a → ⊥ = λ q. clash (eq_z_t q) (not-true (eq_z v a) t) in of_le {v = v} {w = a -ℤ pos 1} (omega (arith, zz, ne_read n, diff a (pos 1))))
 
   -- it is the only one
-  but_alone : low_of cells x ≡ a → high_of cells x ≤ℤ a → (f : List ℤ → ℤ) → end_of f (but a (values cells x)) ≡ none
+  but_alone : low_of cells x ≡ a → high_of cells x ≤ℤ a → (f : List ℤ → ℤ) → end_of f (but a (values cells x)) ≡ None
   but_alone e h f = no_member f (but a (values cells x)) (λ v i. other v i)
     where
       other : (v : ℤ) → In v (but a (values cells x)) → ⊥
@@ -356,53 +358,53 @@ module _ (cells : List ℤ) (x : ℕ) (a : ℤ) where
 
   -- the other end stays
   module _ (formed : Formed cells) (known : x < variables cells) (some_left : low_of cells x ≤ℤ high_of cells x) where
-    but_first : low_of cells x <ℤ a → first_of (but a (values cells x)) ≡ some (low_of cells x)
+    but_first : low_of cells x <ℤ a → first_of (but a (values cells x)) ≡ Some (low_of cells x)
     but_first h =
         let e = first_is cells x formed known some_left in
-        first_kept (λ v. not (eq_z v a)) (values cells x) (λ u q. let s : some u ≡ some (low_of cells x) = sym q ∙ sym e in ap not (eq_z_f {a = u} {b = a} (λ w. differs u (cc) w))) ∙ sym e
+        first_kept (λ v. not (eq_z v a)) (values cells x) (λ u q. let s : Some u ≡ Some (low_of cells x) = sym q ∙ sym e in ap not (eq_z_f {a = u} {b = a} (λ w. differs u (cc) w))) ∙ sym e
       where
         differs : (u : ℤ) → u ≡ low_of cells x → u ≡ a → ⊥
         differs u p q = omega (arith, zz)
 
-    but_last : a <ℤ high_of cells x → last_of (but a (values cells x)) ≡ some (high_of cells x)
+    but_last : a <ℤ high_of cells x → last_of (but a (values cells x)) ≡ Some (high_of cells x)
     but_last h =
         let e = last_is cells x formed known some_left in
-        last_kept (λ v. not (eq_z v a)) (values cells x) (values_rising cells x) (λ u q. let s : some u ≡ some (high_of cells x) = sym q ∙ sym e in ap not (eq_z_f {a = u} {b = a} (λ w. differs u (cc) w))) ∙ sym e
+        last_kept (λ v. not (eq_z v a)) (values cells x) (values_rising cells x) (λ u q. let s : Some u ≡ Some (high_of cells x) = sym q ∙ sym e in ap not (eq_z_f {a = u} {b = a} (λ w. differs u (cc) w))) ∙ sym e
       where
         differs : (u : ℤ) → u ≡ high_of cells x → u ≡ a → ⊥
         differs u p q = omega (arith, zz)
 
 -- ---- one end moves: v is the first that is left
 module _ (cells : List ℤ) (x : ℕ) (a : ℤ) where
-  pub squeezed_none : (up : Bool) → none ≡ from_on up a (values cells x) → put cells x (pos 1) (pos 0) ≡ squeezed cells x up a
+  pub squeezed_none : (up : Bool) → None ≡ from_on up a (values cells x) → put cells x (pos 1) (pos 0) ≡ squeezed cells x up a
   squeezed_none true q = ap (λ l. bounded cells x l (last_of (keep (le_z a) (values cells x)))) q
   squeezed_none false q = go (first_of (keep (λ v. le_z v a) (values cells x))) ∙ ap (bounded cells x (first_of (keep (λ v. le_z v a) (values cells x)))) q
     where
-      go : (l : Option ℤ) → put cells x (pos 1) (pos 0) ≡ bounded cells x l none
-      go none = refl
-      go (some u) = refl
+      go : (l : Option ℤ) → put cells x (pos 1) (pos 0) ≡ bounded cells x l None
+      go None = refl
+      go (Some u) = refl
 
   module _ (formed : Formed cells) (known : x < variables cells) {v : ℤ} where
-    pub squeezed_up : some v ≡ first_from a (values cells x) → put cells x v (high_of cells x) ≡ squeezed cells x true a
+    pub squeezed_up : Some v ≡ first_from a (values cells x) → put cells x v (high_of cells x) ≡ squeezed cells x true a
     squeezed_up q =
         let m = first_from_in a (values cells x) (sym q) in
         let l = is_left cells x m.0 in
         let p = l.above in
         let u = l.under in
         let g = last_is cells x formed known (omega (arith, zz)) in
-        ap₂ (bounded cells x) q (g ∙ sym (last_kept (le_z a) (values cells x) (values_rising cells x) (λ w h. let s : some w ≡ some (high_of cells x) = sym h ∙ sym g in of_le (ahead w (cc) u m.1))))
+        ap₂ (bounded cells x) q (g ∙ sym (last_kept (le_z a) (values cells x) (values_rising cells x) (λ w h. let s : Some w ≡ Some (high_of cells x) = sym h ∙ sym g in of_le (ahead w (cc) u m.1))))
       where
         ahead : (w : ℤ) → w ≡ high_of cells x → v ≤ℤ high_of cells x → a ≤ℤ v → a ≤ℤ w
         ahead w s p t = omega (arith, zz)
 
-    pub squeezed_down : some v ≡ last_to a (values cells x) → put cells x (low_of cells x) v ≡ squeezed cells x false a
+    pub squeezed_down : Some v ≡ last_to a (values cells x) → put cells x (low_of cells x) v ≡ squeezed cells x false a
     squeezed_down q =
         let m = last_to_in a (values cells x) (sym q) in
         let l = is_left cells x m.0 in
         let p = l.above in
         let u = l.under in
         let g = first_is cells x formed known (omega (arith, zz)) in
-        ap₂ (bounded cells x) (g ∙ sym (first_kept (λ v. le_z v a) (values cells x) (λ w h. let s : some w ≡ some (low_of cells x) = sym h ∙ sym g in of_le (behind w (cc) p m.1)))) q
+        ap₂ (bounded cells x) (g ∙ sym (first_kept (λ v. le_z v a) (values cells x) (λ w h. let s : Some w ≡ Some (low_of cells x) = sym h ∙ sym g in of_le (behind w (cc) p m.1)))) q
       where
         behind : (w : ℤ) → w ≡ low_of cells x → low_of cells x ≤ℤ v → v ≤ℤ a → w ≤ℤ a
         behind w s p t = omega (arith, zz)
@@ -426,6 +428,16 @@ module _ (cells : List ℤ) (x : ℕ) (r a : ℤ) where
   narrowed_not_equal e f g =
       ap₂ (λ c (p : ℤ → Bool). bounded (marked cells x a c) x (first_of (keep p (values cells x))) (last_of (keep p (values cells x)))) (sym (by_other false false false (between cells x a) r e f g))
       (sym (fun_ext (λ v. by_other (le_z v a) (le_z a v) (eq_z v a) (not (eq_z v a)) r e f g)))
+
+-- ---- a relation by its number does what the number does
+module _ (cells : List ℤ) (x : ℕ) (r a : ℤ) {relation : Relation} (e : relation ≡ relation_of r) where
+  pub narrowed_code : narrowed cells x (code relation) a ≡ narrowed cells x r a
+  unfolding narrowed
+  narrowed_code =
+      ap₂ (λ c (p : ℤ → Bool). bounded (marked cells x a c) x (first_of (keep p (values cells x))) (last_of (keep p (values cells x)))) (by_code r e _ _ _ _) (fun_ext (stands_code r e a))
+
+  pub narrowed_not_code : narrowed cells x (opposite (code relation)) (shifted (code relation) a) ≡ narrowed cells x (opposite r) (shifted r a)
+  narrowed_not_code = ap₂ (narrowed cells x) (by_code r e _ _ _ _) (by_code r e _ _ _ _)
 
 -- ---- a value is taken away: outside the ends, between them, at the low end, at the high end, the only one
 module _ (cells : List ℤ) (x : ℕ) (a : ℤ) (formed : Formed cells) (known : x < variables cells) where

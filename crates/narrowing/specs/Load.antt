@@ -1,12 +1,13 @@
 -- A box as its bounds are loaded: n variables, no hole, and each variable has the numbers between its two words.
-use Rattle.std.specs.Prelude.{◌≡◌, false, List, eqb, ℤ, pos, nat_abs, length, get_or, set}
+use Rattle.std.specs.Prelude.{◌≡◌, false, List, ◌∷◌, ◌++◌, take, drop, eqb, ℤ, pos, nat_abs, length, get_or, set}
 use Rattle.std.proofs.Math.Path.{refl}
-use Rattle.std.proofs.Common.{ap, ◌∙◌, add-one, arith}
+use Rattle.std.proofs.Common.{sym, ap, ◌∙◌, add-one, arith}
 use Rattle.std.proofs.Math.Logic.{⊎_elim}
 use Prim.Native.Nat.{ℕ, zero, suc, ◌+◌, ◌*◌, ◌≤◌, ◌<◌}
 use borrow.Author.Tests.{eqb-true, eqb-false}
 use Rattle.std.proofs.Math.ListN.{length-set}
-use Rattle.std.proofs.Math.Seq.{get_or-set_same, get_or-set_other}
+use Rattle.std.proofs.lemmas.List.{get_or-drop, append-nil, take-append-drop, set_at, length-append, length-take, length-drop, append_assoc}
+use Rattle.std.proofs.Math.Seq.{take-suc, drop-cons, get_or-set_same, get_or-set_other}
 use Rattle.words.specs.Int.{zz}
 use Rattle.words.specs.ListFacts.{tested}
 use Rattle.domain.specs.Sets.{from_to, without_none}
@@ -46,6 +47,21 @@ module _ (ws : List ℤ) (p : ℕ) (cells : List ℤ) where
       let d = eqb-false i k e in
       get_or-set_other (copied ws p k cells) (k + 2) (i + 2) (get_or ws (p + k) (pos 0)) (pos 0) (λ q. d (omega arith)) ∙ copied_at k i (omega (arith, d)) (omega arith))
       (tested (eqb i k))
+
+  -- they lie between what stands before and behind them
+  pub copied_is : (k : ℕ) → p + k ≤ length ws → k + 2 ≤ length cells → copied ws p k cells ≡ take 2 cells ++ take k (drop p ws) ++ drop (k + 2) cells
+  unfolding copied
+  copied_is zero h f = rw (append-nil {A = ℤ}) (sym (take-append-drop 2 cells))
+  copied_is (suc k) h f =
+      let y = get_or ws (p + k) (pos 0) in
+      let l : length (take 2 cells ++ take k (drop p ws)) ≡ k + 2 = simp (length-append, length-take, length-drop) (omega arith) in
+      let t = take-suc (drop p ws) k (pos 0) (simp length-drop (omega arith)) in
+      let d : drop (k + 2) cells ≡ get_or cells (k + 2) (pos 0) ∷ drop (suc (k + 2)) cells = drop-cons cells (k + 2) (pos 0) (omega arith) in
+      let n : suc (k + 2) ≡ suc k + 2 = omega arith in
+      ap (λ c. set c (k + 2) y) (copied_is k (omega arith) (omega arith))
+      ∙ ap (λ r. set (take 2 cells ++ take k (drop p ws) ++ r) (k + 2) y) d
+      ∙ set_at (take 2 cells ++ take k (drop p ws)) (get_or cells (k + 2) (pos 0)) (drop (suc (k + 2)) cells) y (k + 2) l
+      ∙ rw (t, get_or-drop p ws k (pos 0), n) (simp append_assoc)
 
 -- ---- the box
 pub loaded_is : (ws : List ℤ) (p n : ℕ) (cells : List ℤ) → loaded ws p n cells ≡ set (set (copied ws p (2 * n) cells) 0 (pos n)) 1 (pos 0)

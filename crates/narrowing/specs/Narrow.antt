@@ -1,7 +1,7 @@
 -- What an atom does to a box: its variable keeps the values that meet it, every other variable keeps all, and the table stays a box.
 use Rattle.std.specs.Prelude.{Bool, true, ◌&&◌, ℕ, ◌+◌, ◌≤◌, ◌<◌, ◌+ℤ◌, ◌-ℤ◌, set}
 use Rattle.std.proofs.Math.Bool.{false}
-use Rattle.std.proofs.Math.Option.{Option, none, some}
+use Rattle.std.specs.Prelude.{Option, None, Some}
 use mathlib.Core.List.{List}
 use Rattle.std.proofs.Math.IntN.{ℤ, pos}
 use Rattle.std.proofs.Math.ListN.{length}
@@ -23,9 +23,9 @@ abbrev pub put : List ℤ → ℕ → ℤ → ℤ → List ℤ
 put cells x a b = set (set cells (low_place x) a) (high_place x) b
 
 abbrev pub bounded : List ℤ → ℕ → Option ℤ → Option ℤ → List ℤ
-bounded cells x none g = put cells x (pos 1) (pos 0)
-bounded cells x (some a) none = put cells x (pos 1) (pos 0)
-bounded cells x (some a) (some b) = put cells x a b
+bounded cells x None g = put cells x (pos 1) (pos 0)
+bounded cells x (Some a) None = put cells x (pos 1) (pos 0)
+bounded cells x (Some a) (Some b) = put cells x a b
 
 unfoldable pub holed : List ℤ → ℕ → ℤ → List ℤ
 holed cells x a = set (set (set cells (hole_place (variables cells) (holes cells)) (pos x)) (hole_place (variables cells) (holes cells) + 1) a) 1 (pos (holes cells + 1))

@@ -4,29 +4,23 @@
 mod cumulative;
 mod distinct;
 mod linear;
-pub mod table;
 
-ghost use Rattle.std.specs.Prelude.{◌≤◌};
 ghost use Rattle.meaning.specs.Model.{row};
 ghost use Rattle.reading.specs.Told.{Skims};
 
 use reading;
-use reading::Past;
+use reading::MODEL;
+use reading::counts::Count;
+use reading::kinds::RowKind;
+use reading::refusals::Refusal;
 
-pub fn row(s: &[i32], at: usize, v: usize) -> Past
-    requires { v ≤ 65536 }
-    ensures { Skims (row v) s.now at result }
+pub fn row(s: &[i32], at: usize, v: Count) -> Result<usize, Refusal>
+    ensures { Skims (row v.n) s.now at result }
 {
-    let g = table::number(s, at, 1, 4);
-    let Past::Next(next) = g else {
-        return g;
-    };
-    let kind = reading::number_at(s, at);
-    if kind == 1 {
-        return linear::row(s, next, v);
+    let next = MODEL.number(s, at, 1, 4)?;
+    match RowKind::from(reading::number_at(s, at)) {
+        RowKind::Linear => linear::row(s, next, v),
+        RowKind::Cumulative => cumulative::row(s, next, v),
+        RowKind::AllDifferent | RowKind::Circuit => distinct::row(s, next, v),
     }
-    if kind == 3 {
-        return cumulative::row(s, next, v);
-    }
-    distinct::row(s, next, v)
 }

@@ -1,77 +1,60 @@
-// A quick pass over one step of the log table: where all is well it says where the step ends. Where it is not sure it says 0, no position that a
-// step can end at, and whoever wants to know more reads the step with care. Each run of words has one test of the table's length.
+// A quick pass over one step of the log table: where all is well it says where the step ends. Where it is not sure it says nothing, and whoever wants to
+// know more reads the step with care. Each run of words has one test of the table's length, and there is one call of the fact's reader, so that it is put
+// into the step.
 #![tactic(auto)]
 
 mod facts;
 mod ranges;
 
-ghost use Rattle.std.specs.Prelude.{◌≡◌, ◌≤◌};
+ghost use Rattle.std.specs.Prelude.{◌≡◌};
 ghost use Rattle.meaning.specs.Limits.{most_hints};
 ghost use Rattle.meaning.specs.Read.{times};
 ghost use Rattle.meaning.specs.Log.{number_below, step};
 ghost use Rattle.quick.specs.Ends.{Ends, Counted, Starts, Follows};
 
+use reading::counts::{Count, Known};
+use reading::kinds::StepKind;
 use reading::limits::MOST_HINTS;
 
-// Where the fact of a step of kind 1 or 2 begins: behind its row number, or at once.
-fn fact_start(s: &[i32], at: usize, kind: usize, rows: usize) -> usize
-    requires { rows ≤ 65536 }
-    ensures { Starts rows kind s.now at result }
+// Where the fact of a step that makes one begins: behind its row number, or at once.
+fn fact_start(s: &[i32], at: usize, kind: StepKind, rows: Count) -> Option<usize>
+    ensures { Starts rows.n kind s.now at result }
 {
-    if kind == 1 {
-        return ranges::named(s, at, rows);
+    match kind {
+        StepKind::Inference => ranges::named(s, at, rows),
+        StepKind::Deduction => Some(at),
+        StepKind::NoAssignment | StepKind::NeverBelow => None,
     }
-    at
 }
 
-fn hints(s: &[i32], at: usize, k: usize) -> usize
-    requires { k ≤ 65536 }
-    ensures { Counted most_hints (λ n. times n (number_below k)) s.now at result }
+fn hints(s: &[i32], at: usize, k: Count) -> Option<usize>
+    ensures { Counted most_hints (λ n. times n (number_below k.n)) s.now at result }
 {
-    let n = ranges::number(s, at, MOST_HINTS);
-    if MOST_HINTS < n {
-        return 0;
-    }
-    let end = at + 1 + n;
-    if s.len() < end {
-        return 0;
-    }
-    if ranges::all_name(s, at + 1, n, k) {
-        return end;
-    }
-    0
+    ranges::counted(
+        s,
+        at,
+        MOST_HINTS,
+        1,
+        |from, n| ranges::all_name(s, from, n, k),
+    )
 }
 
-// Where a step of kind 1 or 2 ends whose fact ends at a position: there, or behind its hints.
-fn after_fact(s: &[i32], at: usize, kind: usize, k: usize) -> usize
-    requires { k ≤ 65536 }
-    ensures { Follows k kind s.now at result }
+// Where a step ends whose fact ends at a position: there, or behind its hints.
+fn after_fact(s: &[i32], at: usize, kind: StepKind, k: Count) -> Option<usize>
+    ensures { Follows k.n kind s.now at result }
 {
-    if kind == 1 {
-        return at;
+    match kind {
+        StepKind::Inference => Some(at),
+        _ => hints(s, at, k),
     }
-    hints(s, at, k)
 }
 
-// Step k of the log, which begins at a position: v variables and rows many rows can be named, and the facts below k. Of a conclusion it is never sure.
-pub fn step(s: &[i32], at: usize, k: usize, v: usize, rows: usize) -> usize
-    requires { (v ≤ 65536) × (rows ≤ 65536) × (k ≤ 65536) }
-    ensures { Ends (step v rows k) s.now at result }
+// The step that begins at a position. Of a conclusion it is never sure.
+pub fn step(s: &[i32], at: usize, known: Known) -> Option<usize>
+    ensures { Ends (step known.variables.n known.rows.n known.facts.n) s.now at result }
 {
-    let kind = ranges::number(s, at, 2);
-    if kind == 0 {
-        return 0;
-    }
-    if 2 < kind {
-        return 0;
-    }
-    let from = fact_start(s, at + 1, kind, rows);
-    if from == 0 {
-        return 0;
-    }
-    let end = facts::fact(s, from, v);
-    if end == 0 {
-        return 0;
-    }
-    after_fact(s, end, kind, k)
+    let kind = StepKind::from(ranges::number(s, at, 4)?);
+    let from = fact_start(s, at + 1, kind, known.rows)?;
+    let end = facts::fact(s, from, known.variables)?;
+    after_fact(s, end, kind, known.facts)
 }

@@ -1,5 +1,8 @@
 pub mod At
+pub mod Kinds
+pub mod Reasons
 pub mod Told
+pub mod Turns
 pub mod Only
 pub mod Reading
 pub mod Back

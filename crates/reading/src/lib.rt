@@ -2,66 +2,98 @@
 // numbered refusal. What the words say is asked by position, once they were read well.
 #![tactic(auto)]
 
+pub mod counts;
+pub mod kinds;
 pub mod limits;
 pub mod refusals;
 
 ghost use Rattle.std.specs.Prelude.{◌≡◌, ◌≤◌, ◌<◌, ◌^◌, pos, length, get_or, ◌≤ℤ◌};
 ghost use Rattle.meaning.specs.Read.{word, count, below, neg};
 ghost use Rattle.reading.specs.At.{nat_at};
+ghost use Rattle.reading.specs.Reasons.{number_of};
 ghost use Rattle.reading.specs.Told.{Skims};
+ghost use Rattle.reading.specs.Turns.{Turns};
 
+use refusals::{Reason, Refusal};
 use words;
 use words::VarNo;
 
-// The position behind what was read, or a refusal's number and position.
+// What is said of a table's word that is missing, and of one that is out of its range.
 #[derive(Clone, Copy)]
-pub enum Past {
-    Next(usize),
-    Refused(u32, usize),
+pub struct Table {
+    pub early: Reason,
+    pub outside: Reason,
 }
 
-// The word at a position: `early` where the table ends before it, `outside` where it is not in lo..hi.
-// Each way returns by itself: so the compiler makes every reader above of jumps, and a step is read four times as fast as with one value of all ways.
-pub fn word(s: &[i32], at: usize, early: u32, outside: u32, lo: i32, hi: i32) -> Past
-    ensures { Skims (word early outside lo hi) s.now at result }
-{
-    if at < s.len() {
-        let w = s[at];
-        let next = at + 1;
-        if words::in_range(w, lo, hi) {
-            return Past::Next(next);
+pub const MODEL: Table = Table {
+    early: Reason::ModelEndsEarly,
+    outside: Reason::ModelWordOutside,
+};
+
+pub const LOG: Table = Table {
+    early: Reason::LogEndsInsideStep,
+    outside: Reason::LogWordOutside,
+};
+
+impl Table {
+    // The word at a position, from lo to hi. Each way returns by itself: so the compiler makes jumps of every reader above.
+    pub fn word(self, s: &[i32], at: usize, lo: i32, hi: i32) -> Result<usize, Refusal>
+        ensures { Skims (word (number_of self.early) (number_of self.outside) lo hi) s.now at result }
+    {
+        if at < s.len() {
+            let w = s[at];
+            let next = at + 1;
+            if words::in_range(w, lo, hi) {
+                return Ok(next);
+            }
+            return Err(self.outside.at(at));
         }
-        return Past::Refused(outside, at);
+        Err(self.early.at(at))
     }
-    Past::Refused(early, at)
-}
 
-// A word from -most to most.
-pub fn within(s: &[i32], at: usize, early: u32, outside: u32, most: usize) -> Past
-    requires { (1 ≤ most) × (most < 2 ^ 31) }
-    ensures { Skims (word early outside (neg most) (pos most)) s.now at result }
-{
-    let hi = most as i32;
-    word(s, at, early, outside, 0 - hi, hi)
-}
-
-// A word that is a number from lo to hi.
-pub fn number(s: &[i32], at: usize, early: u32, outside: u32, lo: usize, hi: usize) -> Past
-    requires { (lo < 2 ^ 31) × (hi < 2 ^ 31) }
-    ensures { Skims (count early outside lo hi) s.now at result }
-{
-    word(s, at, early, outside, lo as i32, hi as i32)
-}
-
-// A word that is a number below n: with n = 0 no word is in range.
-pub fn below(s: &[i32], at: usize, early: u32, outside: u32, n: usize) -> Past
-    requires { n ≤ 2 ^ 31 }
-    ensures { Skims (below early outside n) s.now at result }
-{
-    if n == 0 {
-        return number(s, at, early, outside, 1, 0);
+    // A word from -most to most.
+    pub fn within(self, s: &[i32], at: usize, most: usize) -> Result<usize, Refusal>
+        requires { (1 ≤ most) × (most < 2 ^ 31) }
+        ensures { Skims (word (number_of self.early) (number_of self.outside) (neg most) (pos most)) s.now at result }
+    {
+        let hi = most as i32;
+        self.word(s, at, 0 - hi, hi)
     }
-    number(s, at, early, outside, 0, n - 1)
+
+    // A word that is a number from lo to hi.
+    pub fn number(self, s: &[i32], at: usize, lo: usize, hi: usize) -> Result<usize, Refusal>
+        requires { (lo < 2 ^ 31) × (hi < 2 ^ 31) }
+        ensures { Skims (count (number_of self.early) (number_of self.outside) lo hi) s.now at result }
+    {
+        self.word(s, at, lo as i32, hi as i32)
+    }
+
+    // A word that is a number below n: with n = 0 no word is in range.
+    pub fn below(self, s: &[i32], at: usize, n: usize) -> Result<usize, Refusal>
+        requires { n ≤ 2 ^ 31 }
+        ensures { Skims (below (number_of self.early) (number_of self.outside) n) s.now at result }
+    {
+        if n == 0 {
+            return self.number(s, at, 1, 0);
+        }
+        self.number(s, at, 0, n - 1)
+    }
+}
+
+// n things in turn, each from where the one before it ended. The first that is refused ends it.
+pub fn times<F: Fn(usize) -> Result<usize, Refusal>>(
+    n: usize,
+    from: usize,
+    one: F,
+) -> Result<usize, Refusal>
+    requires { F.IsAlwaysCallable one }
+    ensures { Turns (F.post one) n from result }
+{
+    let mut at = from;
+    for _ in 0..n {
+        at = one(at)?;
+    }
+    Ok(at)
 }
 
 // The number at a position, where it was read well before.

@@ -1,32 +1,49 @@
-// The numbers of document 01's refusals.
-pub const MODEL_TOO_LONG: u32 = 1;
+// Document 01's refusals: why a table or a step is refused, and where.
+ghost use Rattle.std.specs.Prelude.{◌≡◌};
+ghost use Rattle.reading.specs.Reasons.{number_of};
 
-pub const LOG_TOO_LONG: u32 = 2;
+// Each has its number there.
+#[derive(Clone, Copy, PartialEq, Eq, PartialOrd, Ord, Debug)]
+pub enum Reason {
+    ModelTooLong = 1,
+    LogTooLong = 2,
+    TooFewPlaces = 3,
+    ModelEndsEarly = 4,
+    ModelWordOutside = 5,
+    VariableTwice = 6,
+    WordsAfterModel = 7,
+    NoConclusion = 10,
+    LogEndsInsideStep = 11,
+    LogWordOutside = 12,
+    WordsAfterConclusion = 13,
+    BoxEmpty = 20,
+    RowDoesNotConflict = 21,
+    HintDoesNotApply = 22,
+    HintsUsedUp = 23,
+    FactDoesNotFit = 24,
+}
 
-pub const TOO_FEW_PLACES: u32 = 3;
+impl From<Reason> for u32 {
+    ghost from_gives = { λ r n. n ≡ number_of r };
 
-pub const MODEL_ENDS_EARLY: u32 = 4;
+    fn from(r: Reason) -> u32 {
+        r as u32
+    }
+}
 
-pub const MODEL_WORD_OUTSIDE: u32 = 5;
+#[derive(Clone, Copy, PartialEq, Eq, Debug)]
+pub struct Refusal {
+    pub reason: Reason,
+    pub position: usize,
+}
 
-pub const VARIABLE_TWICE: u32 = 6;
-
-pub const WORDS_AFTER_MODEL: u32 = 7;
-
-pub const NO_CONCLUSION: u32 = 10;
-
-pub const LOG_ENDS_INSIDE_STEP: u32 = 11;
-
-pub const LOG_WORD_OUTSIDE: u32 = 12;
-
-pub const WORDS_AFTER_CONCLUSION: u32 = 13;
-
-pub const BOX_EMPTY: u32 = 20;
-
-pub const ROW_DOES_NOT_CONFLICT: u32 = 21;
-
-pub const HINT_DOES_NOT_APPLY: u32 = 22;
-
-pub const HINTS_USED_UP: u32 = 23;
-
-pub const FACT_DOES_NOT_FIT: u32 = 24;
+impl Reason {
+    pub fn at(self, position: usize) -> Refusal
+        ensures { (result.reason ≡ self) × (result.position ≡ position) }
+    {
+        Refusal {
+            reason: self,
+            position,
+        }
+    }
+}

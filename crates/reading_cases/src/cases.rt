@@ -1,63 +1,48 @@
 // The lines of the input: a name that begins with the letter of what is asked, a colon, and words.
+use crate::asked::AskedStep;
 use crate::show;
 use lines;
-use lines::number;
 use std::io;
 
-// A step: its position, its number, how many variables and rows there are, and the log's words.
-fn step(rt: &impl Print, words: &[i32], again: bool) -> io::Result<()> {
-    if words.len() < 4 {
-        return Ok(());
-    }
-    let at = number(words[0]);
-    let k = number(words[1]);
-    let v = number(words[2]);
-    let rows = number(words[3]);
-    let log = &words[4..];
-    if again {
-        show::again(rt, log, at, k, v, rows)
-    } else {
-        show::step(rt, log, at, k, v, rows)
-    }
-}
+// The most words of a line that are looked at.
+const MOST_WORDS: usize = 400;
 
 // M: a model, S: a step, A: the fact of a step read again.
 fn asked(rt: &impl Print, letter: u8, words: &[i32]) -> io::Result<()> {
-    if letter == 77 {
-        show::table(rt, words)
+    if letter == b'M' {
+        return show::table(rt, words);
+    }
+    let Some(step) = AskedStep::of(words) else {
+        return Ok(());
+    };
+    if letter == b'A' {
+        show::again(rt, step)
     } else {
-        step(rt, words, letter == 65)
+        show::step(rt, step)
     }
 }
 
-fn line(rt: &impl Print, text: &[u8], from: usize) -> io::Result<()> {
-    let colon = lines::find(text, from, 58);
-    if text.len() <= colon {
+// The line that a text begins with. One with no name or no colon asks for nothing.
+fn line(rt: &impl Print, text: &[u8]) -> io::Result<()> {
+    let Some(colon) = lines::find(text, b':') else {
         return Ok(());
-    }
-    if colon <= from {
+    };
+    let [letter, ..] = &text[..colon] else {
         return Ok(());
-    }
-    show::text(rt, &text[from..colon])?;
-    show::text(rt, b": ")?;
-    let mut words = [0i32; 400];
-    let n = lines::fill(text, colon + 1, &mut words, 0, 400);
-    asked(rt, text[from], &words[..n])?;
-    show::text(rt, b"\n")
+    };
+    rt.write_all(&text[..colon])?;
+    print!(rt; ": ")?;
+    let mut words = [0; MOST_WORDS];
+    let n = lines::fill(&text[colon + 1..], &mut words);
+    asked(rt, *letter, &words[..n])?;
+    println!(rt)
 }
 
 pub fn all(rt: &impl Print, text: &[u8]) -> io::Result<()> {
-    let mut at = 0;
-    while at < text.len() {
-        line(rt, text, at)?;
-        let end = lines::find(text, at, 10);
-        if text.len() <= end {
-            return Ok(());
-        }
-        if end < at {
-            return Ok(());
-        }
-        at = end + 1;
+    let mut rest = text;
+    while !rest.is_empty() {
+        line(rt, rest)?;
+        rest = lines::next_line(rest);
     }
     Ok(())
 }

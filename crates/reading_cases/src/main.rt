@@ -3,6 +3,7 @@
 
 use std::io;
 
+mod asked;
 mod cases;
 mod show;
 

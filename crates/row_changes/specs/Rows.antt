@@ -36,22 +36,22 @@ flag_at d (p ∷ ps) [] r l h = absurd (omega arith)
 flag_at d (p ∷ ps) (q ∷ qs) zero l h = refl
 flag_at d (p ∷ ps) (q ∷ qs) (suc r) l h = flag_at d ps qs r (omega arith) (omega arith)
 
--- ---- two good models of the same size
-module _ {old new : List ℤ} {olds news : List ℕ} {v c : ℕ} (o : Planned old olds v c) (n : Planned new news v c) where
+-- the words of row r
+words_of : {s : List ℤ} {starts : List ℕ} {v c : ℕ} (m : Planned s starts v c) (r : ℕ) → r < c → row_words (get_or (model_of s).rows r (linear (pos 0) [])) ≡ row_words_at s (get_or starts r 0)
+words_of {s} m r h = ap row_words (m.row_is r h) ∙ row_words_lem s (m.row_in r h)
+
+-- ---- two good models with as many rows
+module _ {old new : List ℤ} {olds news : List ℕ} {v c w d : ℕ} (o : Planned old olds v c) (n : Planned new news w d) (e : c ≡ d) where
   abbrev pub flags : List Bool
   flags = changes (model_of old).rows (model_of new).rows
 
-  pub flags_length : length flags ≡ c
-  flags_length = length_changes (model_of old).rows (model_of new).rows (o.rows ∙ sym n.rows) ∙ o.rows
+  as_many : length (model_of old).rows ≡ length (model_of new).rows
+  as_many = o.rows ∙ e ∙ sym n.rows
 
-  words_of : {s : List ℤ} {starts : List ℕ} (m : Planned s starts v c) (r : ℕ) → r < c → row_words (get_or (model_of s).rows r (linear (pos 0) [])) ≡ row_words_at s (get_or starts r 0)
-  words_of {s} m r h = ap row_words (m.row_is r h) ∙ row_words_lem s (m.row_in r h)
+  pub flags_length : length flags ≡ d
+  flags_length = length_changes (model_of old).rows (model_of new).rows as_many ∙ o.rows ∙ e
 
-  pub flag_is : (r : ℕ) → r < c → get_or flags r false ≡ not (same_words (row_words_at old (get_or olds r 0)) (row_words_at new (get_or news r 0)))
-  flag_is r h = flag_at (linear (pos 0) []) (model_of old).rows (model_of new).rows r (o.rows ∙ sym n.rows) (omega (arith, o.rows)) ∙ ap₂ (λ x y. not (same_words x y)) (words_of o r h) (words_of n r h)
-
--- two good models with as many variables and `rows` rows each
-pub record Alike (old : List ℤ) (olds : List ℕ) (new : List ℤ) (news : List ℕ) (rows : ℕ) : Type 0 where
-  pub variables : ℕ
-  pub before : Planned old olds variables rows
-  pub after : Planned new news variables rows
+  pub flag_is : (r : ℕ) → r < d → get_or flags r false ≡ not (same_words (row_words_at old (get_or olds r 0)) (row_words_at new (get_or news r 0)))
+  flag_is r h =
+      flag_at (linear (pos 0) []) (model_of old).rows (model_of new).rows r as_many (omega (arith, o.rows))
+      ∙ ap₂ (λ x y. not (same_words x y)) (words_of o r (omega arith)) (words_of n r h)

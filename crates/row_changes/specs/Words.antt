@@ -1,11 +1,14 @@
--- Words of two tables held against each other, word by word.
+-- Words of two tables held against each other.
 use Prim.Native.Nat.{ℕ, zero, suc, ◌+◌, ◌*◌, ◌-◌, ◌≤◌, ◌<◌}
 use Rattle.std.specs.Prelude.{◌≡◌, Bool, true, false, ◌&&◌, List, [], ◌∷◌, ℤ, pos, length, get_or, take, drop}
 use Rattle.std.proofs.Math.Path.{refl}
-use Rattle.std.proofs.Common.{ap, ◌∙◌, add-zero, add-one, length-take, length-drop, drop-cons}
+use lib.Pointwise.{pointwise}
+use Rattle.std.proofs.Common.{int_eq, sym, ap, ◌∙◌, add-zero, add-one, length-take, length-drop, drop-cons}
 use Rattle.std.proofs.Math.Nat.{sub-zero}
 use native.Mathlib.Omega.{arith}
-use Rattle.words.specs.Int.{eq_z}
+use Rattle.std.proofs.lemmas.Bool.Decides.{Decides-int_eq}
+use Rattle.std.specs.Bool.{Decides}
+use Rattle.words.specs.Int.{eq_z, eq_z_eq, eq_z_t}
 use Rattle.meaning.specs.Model.{Bounds}
 use Rattle.meaning.specs.Check.{same_words, same_bounds}
 use Rattle.reading.specs.At.{each_at}
@@ -44,7 +47,7 @@ other_bounds (x ∷ xs) (y ∷ ys) h = rw (other_bounds xs ys (λ e. h (ap suc e
     none false b = refl
 
 module _ (a b : List ℤ) where
-  -- ---- a loop over n words: what is left to compare after i of them
+  -- ---- n words: what is left to compare after i of them
   module _ (p q n : ℕ) where
     abbrev pub words_left : ℕ → Bool
     words_left i = same_words (words_at a (p + i) (n - i)) (words_at b (q + i) (n - i))
@@ -78,3 +81,19 @@ module _ (a b : List ℤ) where
       let x : p + 2 ≡ p + 1 + 1 = omega arith in
       let y : q + 2 ≡ q + 1 + 1 = omega arith in
       rw (bounds_words v (p + 2) (q + 2) (omega arith) (omega arith), s, x, y, words_next a p (suc (v * 2)) (omega arith), words_next a (p + 1) (v * 2) (omega arith), words_next b q (suc (v * 2)) (omega arith), words_next b (q + 1) (v * 2) (omega arith))
+
+-- ---- as a comparison of slices tells it
+one_answer : (P : Type 0) (a b : Bool) → Decides a P → Decides b P → a ≡ b
+one_answer P true true p q = refl
+one_answer P true false p q = sym (q.1 (p.0 refl))
+one_answer P false true p q = p.1 (q.0 refl)
+one_answer P false false p q = refl
+
+int_eq_z : (x y : ℤ) → int_eq x y ≡ eq_z x y
+int_eq_z x y = one_answer (x ≡ y) (int_eq x y) (eq_z x y) (Decides-int_eq x y) (eq_z_eq x y, λ q. eq_z_t q)
+
+pub pointwise_same : (xs ys : List ℤ) → pointwise int_eq xs ys ≡ same_words xs ys
+pointwise_same [] [] = refl
+pointwise_same [] (y ∷ ys) = refl
+pointwise_same (x ∷ xs) [] = refl
+pointwise_same (x ∷ xs) (y ∷ ys) = rw (int_eq_z x y, pointwise_same xs ys)

@@ -1,4 +1,4 @@
-// A set of rows as one number, with one bit for each row.
+// A set of rows as one number, with one bit for each row, as document 01 asks for it.
 #![tactic(auto)]
 
 ghost use Rattle.std.specs.Prelude.{◌≡◌, ◌<◌};

@@ -17,7 +17,7 @@ then_at (suc q) s p = some (atom_at s p)
 
 -- the fact whose parts stand at such places
 abbrev pub fact_of : List ℤ → FactPlace → Fact
-fact_of s f = record { premises = each_at atom_at 3 f.count s f.premises; consequent = then_at f.then s f.consequent }
+fact_of s f = record { premises = each_at atom_at 3 f.premises.many s f.premises.from; consequent = then_at f.consequent.many s f.consequent.from }
 
 -- ---- the fact that begins at p: how many premises, these, how many consequents, this
 
@@ -26,7 +26,10 @@ premises_end s p = p + 1 + nat_at s p * 3
 
 -- where its parts stand
 abbrev pub place_at : List ℤ → ℕ → FactPlace
-place_at s p = record { premises = p + 1; count = nat_at s p; consequent = premises_end s p + 1; then = nat_at s (premises_end s p) }
+place_at s p = record {
+  premises = record { from = p + 1; many = nat_at s p };
+  consequent = record { from = premises_end s p + 1; many = nat_at s (premises_end s p) };
+}
 
 abbrev pub fact_at : At Fact
 fact_at s p = fact_of s (place_at s p)
@@ -43,11 +46,11 @@ pub record AtomIn (v : ℕ) (s : List ℤ) (p : ℕ) : Type 0 where
   pub value : nat_abs (get_or s (p + 2) (pos 0)) ≤ most_value
 
 pub record FactIn (v : ℕ) (s : List ℤ) (f : FactPlace) : Type 0 where
-  pub few : f.count ≤ most_premises
-  pub one : f.then ≤ 1
-  pub fits : (f.premises + f.count * 3 ≤ length s) × (f.consequent + f.then * 3 ≤ length s)
-  pub premise : (i : ℕ) → i < f.count → AtomIn v s (f.premises + i * 3)
-  pub consequence : f.then ≡ 1 → AtomIn v s f.consequent
+  pub few : f.premises.many ≤ most_premises
+  pub one : f.consequent.many ≤ 1
+  pub fits : (f.premises.from + f.premises.many * 3 ≤ length s) × (f.consequent.from + f.consequent.many * 3 ≤ length s)
+  pub premise : (i : ℕ) → i < f.premises.many → AtomIn v s (f.premises.from + i * 3)
+  pub consequence : f.consequent.many ≡ 1 → AtomIn v s f.consequent.from
 
 -- both numbers of the fact that begins at p are in range
 pub record FactBegins (s : List ℤ) (p : ℕ) : Type 0 where

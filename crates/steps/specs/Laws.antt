@@ -1,6 +1,6 @@
 -- What a step that was read well says of the words of the log: which step it is and where its parts stand, the fact that it makes, and where the next step begins.
-use Rattle.std.specs.Prelude.{ℕ, zero, suc, ◌+◌, ◌*◌, ◌≤◌, ◌<◌, ◌≡◌, refl, List, ℤ, nat_abs, length, drop}
-use Rattle.std.proofs.Common.{sym, ap, subst, ◌∙◌, arith, length-drop}
+use Rattle.std.specs.Prelude.{ℕ, zero, suc, ◌+◌, ◌*◌, ◌≤◌, ◌<◌, ◌≡◌, refl, List, ℤ, nat_abs, length, drop, Ok, Err}
+use Rattle.std.proofs.Common.{sym, subst, arith, length-drop}
 use Rattle.meaning.specs.Limits.{most_value, most_hints}
 use Rattle.meaning.specs.Read.{got, refused}
 use Rattle.meaning.specs.Log.{Fact, step}
@@ -10,10 +10,10 @@ use Rattle.meaning.proofs.Proved.ReadStep.{StepRead, reads_step, step_left, fewe
 use Rattle.reading.specs.At.{int_at, nat_at, Names, Between, Each}
 use Rattle.reading.specs.Reading.{skim_refused}
 use Rattle.reading.specs.Back.{ranged_size}
-use Rattle.reading.specs.Told.{told_past, Skims}
+use Rattle.reading.specs.Reasons.{number_of}
+use Rattle.reading.specs.Told.{Skims}
 use Rattle.reading.specs.Over.{got_over}
-use Rattle.reading.specs.declared.Past.{Past}
-use Rattle.reading.specs.declared.Past.TheVariants as past
+use Rattle.reading.specs.declared.refusals.Refusal.{Refusal}
 use Rattle.steps.specs.Facts.{fact_of, fact_next, made_start, made_place, FactIn, FactFrom, MadeFrom}
 use Rattle.steps.specs.Told.{step_of, placed_kind, placed}
 use Rattle.steps.specs.Back.{KindIn, StepIn, step_back}
@@ -55,7 +55,7 @@ pub record HintsIn (k : ℕ) (s : List ℤ) (h q : ℕ) : Type 0 where
 
 abbrev pub PartsIn : ℕ → ℕ → ℕ → List ℤ → Step → Type 0
 PartsIn v c k s (step.Inference r f) = (r.0 < c) × FactIn v s f
-PartsIn v c k s (step.Deduction f h q) = FactIn v s f × HintsIn k s h q
+PartsIn v c k s (step.Deduction f h) = FactIn v s f × HintsIn k s h.from h.many
 PartsIn v c k s (step.NoAssignment j) = j.0 < k
 PartsIn v c k s (step.NeverBelow x a j) = (x.0 < v) × (nat_abs a ≤ most_value) × (j.0 < k)
 
@@ -103,9 +103,9 @@ refused_by v c k s p (short h) l = omega (arith, length-drop p s)
 refused_by v c k s p (off w lo hi) l = omega (arith, length-drop p s)
 
 module _ {v c k : ℕ} {s : List ℤ} {p : ℕ} where
-  pub stepped : {a : Past} {n : ℕ} → Skims (step v c k) s p a → a ≡ past.Next n → Stepped v c k s p n
-  stepped h e =
-      let q = got_over h (step_back v c k) e in
+  pub stepped : {n : ℕ} → Skims (step v c k) s p (Ok n) → Stepped v c k s p n
+  stepped h =
+      let q = got_over h (step_back v c k) in
       let b = (step_back v c k).back s p q in
       let l = step_left v c k p (drop p s) q in
       let d = b.known in
@@ -118,7 +118,7 @@ module _ {v c k : ℕ} {s : List ℤ} {p : ℕ} where
         fits = b.fits (omega (arith, d.kind.inside));
       }
 
-  pub unread : {a : Past} {num q : ℕ} → Skims (step v c k) s p a → a ≡ past.Refused num q → Unread v c k s p num q
-  unread h e =
-      let r = skim_refused (step v c k p (drop p s)) (sym h.told ∙ ap (told_past s) e) in
+  pub unread : {e : Refusal} → Skims (step v c k) s p (Err e) → Unread v c k s p (number_of e.reason) e.position
+  unread h =
+      let r = skim_refused (step v c k p (drop p s)) (sym h.told) in
       record { is = r; inside = refused_by v c k s p (subst (Fair 11 (λ num. num ≡ 12) (StepRead v c k) p (drop p s)) r (reads_step v c k p (drop p s))) }

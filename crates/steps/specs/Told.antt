@@ -9,7 +9,7 @@ use Rattle.steps.specs.declared.Step.TheVariants as step
 
 abbrev pub step_of : List ℤ → Step → log.Step
 step_of s (step.Inference r f) = inference r.0 (fact_of s f)
-step_of s (step.Deduction f h k) = deduction (fact_of s f) (each_at nat_at 1 k s h)
+step_of s (step.Deduction f h) = deduction (fact_of s f) (each_at nat_at 1 h.many s h.from)
 step_of s (step.NoAssignment k) = no_assignment k.0
 step_of s (step.NeverBelow x a k) = never_below x.0 a k.0
 
@@ -17,7 +17,7 @@ step_of s (step.NeverBelow x a k) = never_below x.0 a k.0
 abbrev pub placed_kind : ℕ → List ℤ → ℕ → Step
 placed_kind zero s p = step.NeverBelow (record { 0 = nat_at s p }) (int_at s (p + 1)) (record { 0 = nat_at s (p + 2) })
 placed_kind (suc zero) s p = step.Inference (record { 0 = nat_at s p }) (place_at s (p + 1))
-placed_kind (suc (suc zero)) s p = step.Deduction (place_at s p) (fact_next s p + 1) (nat_at s (fact_next s p))
+placed_kind (suc (suc zero)) s p = step.Deduction (place_at s p) (record { from = fact_next s p + 1; many = nat_at s (fact_next s p) })
 placed_kind (suc (suc (suc zero))) s p = step.NoAssignment (record { 0 = nat_at s p })
 placed_kind (suc (suc (suc (suc n)))) s p = step.NeverBelow (record { 0 = nat_at s p }) (int_at s (p + 1)) (record { 0 = nat_at s (p + 2) })
 

@@ -3,7 +3,7 @@ ghost use Rattle.std.specs.Prelude.{◌≡◌};
 ghost use Rattle.steps.specs.Told.{placed_kind};
 ghost use Rattle.steps.specs.Laws.{KindStands};
 
-use crate::Step;
+use crate::{Run, Step};
 use reading;
 use words;
 use words::{FactNo, RowNo, VarNo};
@@ -22,9 +22,10 @@ pub fn deduction(s: &[i32], at: usize) -> Step
     ensures { result ≡ placed_kind 2 s.now at }
 {
     let fact = crate::fact_at(s, at);
-    let end = fact.consequent + fact.then * 3;
+    let end = fact.consequent.from + fact.consequent.many * 3;
     let many = reading::number_at(s, end);
-    Step::Deduction(fact, end + 1, many)
+    let from = end + 1;
+    Step::Deduction(fact, Run { from, many })
 }
 
 pub fn no_assignment(s: &[i32], at: usize) -> Step

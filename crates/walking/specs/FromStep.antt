@@ -3,7 +3,7 @@ use Rattle.std.specs.Prelude.{ℕ, suc, pred, ◌+◌, ◌<◌, ◌≡◌, refl,
 use Rattle.std.proofs.Common.{ap, ◌∙◌, arith, le_refl, add-one, take-suc-set}
 use Rattle.meaning.specs.Model.{Model}
 use Rattle.meaning.specs.Log.{Fact, Step}
-use Rattle.meaning.specs.Check.{Answer, Conclusion, Outcome, State, passed, counted, one_more, stops, goes, advance, onward, walk}
+use Rattle.meaning.specs.Check.{Answer, Conclusion, Outcome, State, passed, stops, goes, advance, onward, walk}
 use Rattle.meaning.proofs.Proved.Walked.{walk_once, walked, walked_is}
 
 module _ (held : Step → Bool) (say : Conclusion → Answer) (m : Model) where
@@ -34,7 +34,5 @@ map_append f (x ∷ xs) ys = ap (λ l. f x ∷ l) (map_append f xs ys)
 pub one_more_place : (places : List ℕ) (k at : ℕ) → k < length places → take (k + 1) (set places k at) ≡ take k places ++ (at ∷ [])
 one_more_place places k at h = rw (add-one, take-suc-set)
 
-pub state_passed : (made : ℕ → Fact) (places : List ℕ) (k j at : ℕ) (b : Bool) → k < length places
-    → passed (counted b (state_at made (take k places) j)) at (made at) ≡ state_at made (take (k + 1) (set places k at)) (one_more b j)
-state_passed made places k j at b h =
-    rw (one_more_place places k at h, map_append made (take k places) (at ∷ []))
+pub state_passed : (made : ℕ → Fact) (places : List ℕ) (k j at : ℕ) → k < length places → passed (state_at made (take k places) j) at (made at) ≡ state_at made (take (k + 1) (set places k at)) j
+state_passed made places k j at h = rw (one_more_place places k at h, map_append made (take k places) (at ∷ []))

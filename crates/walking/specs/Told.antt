@@ -1,14 +1,14 @@
 -- What the walk's answers tell: document 01's numbers and values for each case.
-use Rattle.std.specs.Prelude.{ℕ, ◌<◌, ◌≤◌, ◌≡◌, refl, Bool, true, false, List, [], ◌++◌, ltb, ℤ, length, drop}
+use Rattle.std.specs.Prelude.{ℕ, ◌<◌, ◌≤◌, ◌≡◌, refl, Bool, true, false, List, [], ◌++◌, ltb, ℤ, length, drop, Result, Ok, Err}
 use Rattle.std.proofs.Common.{arith}
 use Rattle.meaning.specs.Limits.{most_variables}
 use Rattle.meaning.specs.Log.{Fact}
 use Rattle.meaning.specs.Log as log
 use Rattle.meaning.specs.Check as says
-use Rattle.meaning.specs.Refusals.{words_after_conclusion}
 use Rattle.row_set.specs.Bits.{bit_at}
-use Rattle.reading.specs.declared.Past.{Past}
-use Rattle.reading.specs.declared.Past.TheVariants as past
+use Rattle.reading.specs.Reasons.{number_of}
+use Rattle.reading.specs.declared.refusals.Reason.TheVariants as reason
+use Rattle.reading.specs.declared.refusals.Refusal.{Refusal}
 use Rattle.steps.specs.declared.Step.{Step}
 use Rattle.steps.specs.declared.Step.TheVariants as step
 use Rattle.walking.specs.declared.Conclusion.{Conclusion}
@@ -16,15 +16,15 @@ use Rattle.walking.specs.declared.Conclusion.TheVariants as conclusion
 use Rattle.walking.specs.declared.Answer.{Answer}
 use Rattle.walking.specs.declared.Answer.TheVariants as answer
 use Rattle.walking.specs.declared.Walked.{Walked}
-use Rattle.walking.specs.declared.Moved.{Moved}
-use Rattle.walking.specs.declared.Moved.TheVariants as moved
+use Rattle.walking.specs.declared.Onward.{Onward}
+use Rattle.walking.specs.declared.Onward.TheVariants as onward
 
 abbrev pub told_conclusion : Conclusion → says.Conclusion
 told_conclusion conclusion.NoAssignment = says.nothing
 told_conclusion (conclusion.NeverBelow x v) = says.at_least x.0 v
 
 abbrev pub told_answer : Answer → says.Answer
-told_answer (answer.Refused num k p) = says.shut num k p
+told_answer (answer.Refused r k p) = says.shut (number_of r) k p
 told_answer (answer.Accepted c) = says.accepted (told_conclusion c)
 told_answer (answer.Carried c) = says.carried (told_conclusion c)
 
@@ -41,41 +41,32 @@ abbrev pub say_by : Bool → says.Conclusion → says.Answer
 say_by true c = says.accepted c
 say_by false c = says.carried c
 
--- the step k, which begins at `at`, led there from the state s; `f` is the fact that it made
-abbrev pub told_moved : (says.Conclusion → says.Answer) → List ℤ → says.State → ℕ → ℕ → Fact → Moved → says.Next
-told_moved say log s k at f (moved.Goes next held) = says.goes (says.passed (says.counted held s) at f) next (drop next log)
-told_moved say log s k at f (moved.Ends c held) = says.stops (says.ends (say (told_conclusion c)) k at at (says.counted held s) [])
-told_moved say log s k at f (moved.Stops num p held) = says.stops (says.shut_at num k p (says.counted held s))
+-- the step k, which begins at `at`, led there; the state s counts it already, and `f` is the fact that it made
+abbrev pub told_moved : (says.Conclusion → says.Answer) → List ℤ → says.State → ℕ → ℕ → Fact → Result Onward Refusal → says.Next
+told_moved say log s k at f (Ok (onward.To next)) = says.goes (says.passed s at f) next (drop next log)
+told_moved say log s k at f (Ok (onward.End c)) = says.stops (says.ends (say (told_conclusion c)) k at at s [])
+told_moved say log s k at f (Err e) = says.stops (says.shut_at (number_of e.reason) k e.position s)
 
 -- ---- the answers that the walk's parts make
 
--- the step could not be read: it is refused, and was held against no rule
-abbrev pub IsRefused : Past → Type 0
-IsRefused (past.Refused num p) = Unit {0}
-IsRefused (past.Next n) = ⊥
-
-abbrev pub Stopped : Past → Moved → Type 0
-Stopped (past.Refused num p) r = r ≡ moved.Stops num p false
-Stopped (past.Next n) r = ⊥
-
-abbrev pub concluded_if : Bool → Conclusion → Bool → ℕ → Moved
-concluded_if true c held next = moved.Stops words_after_conclusion next held
-concluded_if false c held next = moved.Ends c held
+abbrev pub concluded_if : Bool → Conclusion → ℕ → Result Onward Refusal
+concluded_if true c next = Err (record { reason = reason.WordsAfterConclusion; position = next })
+concluded_if false c next = Ok (onward.End c)
 
 -- words follow where the next position is below the log's length
-abbrev pub concluded : Conclusion → Bool → ℕ → ℕ → Moved
-concluded c held next len = concluded_if (ltb next len) c held next
+abbrev pub concluded : Conclusion → ℕ → ℕ → Result Onward Refusal
+concluded c next len = concluded_if (ltb next len) c next
 
-abbrev pub after_passing : Step → Bool → ℕ → ℕ → Moved
-after_passing (step.Inference r f) held next len = moved.Goes next held
-after_passing (step.Deduction f h n) held next len = moved.Goes next held
-after_passing (step.NoAssignment k) held next len = concluded conclusion.NoAssignment held next len
-after_passing (step.NeverBelow x a k) held next len = concluded (conclusion.NeverBelow x a) held next len
+abbrev pub after_passing : Step → ℕ → ℕ → Result Onward Refusal
+after_passing (step.Inference r f) next len = Ok (onward.To next)
+after_passing (step.Deduction f h) next len = Ok (onward.To next)
+after_passing (step.NoAssignment k) next len = concluded conclusion.NoAssignment next len
+after_passing (step.NeverBelow x a k) next len = concluded (conclusion.NeverBelow x a) next len
 
 -- the row that an inference cites is below n
 abbrev pub RowBelow : ℕ → Step → Type 0
 RowBelow n (step.Inference r f) = r.0 < n
-RowBelow n (step.Deduction f h m) = Unit {0}
+RowBelow n (step.Deduction f h) = Unit {0}
 RowBelow n (step.NoAssignment k) = Unit {0}
 RowBelow n (step.NeverBelow x a k) = Unit {0}
 
@@ -93,7 +84,7 @@ ConclusionIn n conclusion.NoAssignment = Unit {0}
 ConclusionIn n (conclusion.NeverBelow x v) = x.0 < n
 
 abbrev pub NamesIn : ℕ → Answer → Type 0
-NamesIn n (answer.Refused num k p) = Unit {0}
+NamesIn n (answer.Refused r k p) = Unit {0}
 NamesIn n (answer.Accepted c) = ConclusionIn n c
 NamesIn n (answer.Carried c) = ConclusionIn n c
 

@@ -3,20 +3,21 @@
 
 ghost use Rattle.std.specs.Prelude.{◌≡◌, ℕ, ◌+◌, ◌*◌, ◌≤◌, ◌<◌, length, drop, set, []};
 ghost use Rattle.meaning.specs.Limits.{most_rows};
-ghost use Rattle.meaning.specs.Check.{advance, one_more, over};
+ghost use Rattle.meaning.specs.Check.{advance, over};
+ghost use Rattle.row_set.specs.Whole.{whole_in, set_in};
 ghost use Rattle.steps.specs.Facts.{made_fact};
 ghost use Rattle.steps.specs.Told.{step_of};
-ghost use Rattle.walking.specs.Told.{told_moved, held_by, say_by, answer_by, after_passing, concluded, RowBelow, Tells, IsRefused, Stopped};
+ghost use Rattle.walking.specs.Told.{told_moved, held_by, say_by, answer_by, after_passing, concluded, RowBelow, Tells};
 ghost use Rattle.boxes.specs.Boxes.{box_room};
-ghost use Rattle.model.specs.Planned.{model_of, Planned};
+ghost use Rattle.model.specs.Planned.{model_of};
 ghost use Rattle.judging.specs.Cited.{Cited};
 ghost use Rattle.walking.specs.LeadsTo.{LeadsTo};
 ghost use Rattle.walking.specs.FromStep.{state_at};
 
 use judging;
-use judging::Verdict;
-use reading::Past;
-use reading::refusals::{LOG_WORD_OUTSIDE, NO_CONCLUSION, WORDS_AFTER_CONCLUSION};
+use model::Plan;
+use reading::counts::{Count, Known};
+use reading::refusals::{Reason, Refusal};
 use row_set;
 use steps;
 use steps::Step;
@@ -32,7 +33,7 @@ pub enum Conclusion {
 #[derive(Clone, Copy)]
 pub enum Answer {
     Refused {
-        number: u32,
+        reason: Reason,
         step: u32,
         position: u32,
     },
@@ -40,24 +41,11 @@ pub enum Answer {
     Carried(Conclusion),
 }
 
-// What the walk has to do: against how large a model, and which steps it holds against their rule: all in whole mode, else the inferences that cite a changed row.
+// Where a step that passed leads: the next step begins there, or it is the conclusion, and nothing follows it.
 #[derive(Clone, Copy)]
-pub struct Task {
-    pub variables: usize,
-    pub rows: usize,
-    pub whole: bool,
-    pub changed: u64,
-}
-
-// What one step leads to; the flag says whether it was held against its rule.
-#[derive(Clone, Copy)]
-pub enum Moved {
-    // It passed, and the next step begins there.
-    Goes(usize, bool),
-    // It is the conclusion, and nothing follows it.
-    Ends(Conclusion, bool),
-    // It is refused: number and position.
-    Stops(u32, usize, bool),
+pub enum Onward {
+    To(usize),
+    End(Conclusion),
 }
 
 // The answer, and how many steps were held against their rule.
@@ -67,106 +55,87 @@ pub struct Walked {
     pub judged: u32,
 }
 
-// Is the step held against its rule?
-fn is_held(task: Task, step: Step) -> bool
+// Is the step held against its rule? Where nothing is told of changed rows every step is, else the inferences that cite one.
+fn is_held(changed: Option<u64>, step: Step) -> bool
     requires { RowBelow most_rows step }
-    ensures { result ≡ held_by task.whole task.changed (step_of [] step) }
+    ensures { result ≡ held_by (whole_in changed) (set_in changed) (step_of [] step) }
 {
-    if task.whole {
+    let Some(set) = changed else {
         return true;
-    }
+    };
     match step {
-        Step::Inference(r, _) => row_set::is_changed(task.changed, r),
-        Step::Deduction(_, _, _) => false,
+        Step::Inference(r, _) => row_set::is_changed(set, r),
+        Step::Deduction(_, _) => false,
         Step::NoAssignment(_) => false,
         Step::NeverBelow(_, _, _) => false,
     }
 }
 
 // A passed step makes a fact, or it ends the log unless words follow.
-fn after_passing(step: Step, held: bool, next: usize, len: usize) -> Moved
-    ensures { result ≡ after_passing step held next len }
+fn after_passing(step: Step, next: usize, len: usize) -> Result<Onward, Refusal>
+    ensures { result ≡ after_passing step next len }
 {
     match step {
-        Step::Inference(_, _) => Moved::Goes(next, held),
-        Step::Deduction(_, _, _) => Moved::Goes(next, held),
-        Step::NoAssignment(_) => conclude(Conclusion::NoAssignment, held, next, len),
-        Step::NeverBelow(x, a, _) => conclude(Conclusion::NeverBelow(x, a), held, next, len),
+        Step::Inference(_, _) => Ok(Onward::To(next)),
+        Step::Deduction(_, _) => Ok(Onward::To(next)),
+        Step::NoAssignment(_) => conclude(Conclusion::NoAssignment, next, len),
+        Step::NeverBelow(x, a, _) => conclude(Conclusion::NeverBelow(x, a), next, len),
     }
 }
 
-fn conclude(c: Conclusion, held: bool, next: usize, len: usize) -> Moved
-    ensures { result ≡ concluded c held next len }
+fn conclude(c: Conclusion, next: usize, len: usize) -> Result<Onward, Refusal>
+    ensures { result ≡ concluded c next len }
 {
     if next < len {
-        return Moved::Stops(WORDS_AFTER_CONCLUSION, next, held);
+        return Err(Reason::WordsAfterConclusion.at(next));
     }
-    Moved::Ends(c, held)
+    Ok(Onward::End(c))
 }
 
-// A step that could not be read is refused before any rule is looked at.
-fn stopped(g: Past) -> Moved
-    requires { IsRefused g }
-    ensures { Stopped g result }
-{
-    let Past::Refused(number, position) = g else {
-        // No caller comes here.
-        return Moved::Stops(LOG_WORD_OUTSIDE, 0, false);
-    };
-    Moved::Stops(number, position, false)
-}
-
-// The step that begins at a position, after those passed, is read and, where it is held, judged.
+// The step that begins at a position, after those passed, is read and, where it is held, judged; how many were is counted.
 fn one_step(
-    model: &[i32],
-    row_starts: &[u32],
-    task: Task,
+    plan: Plan,
+    changed: Option<u64>,
     log: &[i32],
     passed: &[u32],
     at: usize,
+    judged: &mut u32,
     cells: &mut [i32],
-) -> Moved
-    requires { Planned model.now row_starts.now task.variables task.rows × Cited task.variables log.now passed.now (length passed.now) × (box_room task.variables ≤ length cells.old) × (length log.now ≤ 65536) × (at ≤ length log.now) × (length passed.now ≤ at) }
-    ensures moved { (j : ℕ) → told_moved (say_by task.whole) log.now (state_at (made_fact log.now) passed.now j) (length passed.now) at (made_fact log.now at) result ≡ advance (held_by task.whole task.changed) (say_by task.whole) (model_of model.now) (length passed.now) (state_at (made_fact log.now) passed.now j) at (drop at log.now) }
-    ensures leads { LeadsTo task.variables log.now at result }
+) -> Result<Onward, Refusal>
+    requires { Cited plan.variables log.now passed.now (length passed.now) × (box_room plan.variables ≤ length cells.old) × (length log.now ≤ 65536) × (at ≤ length log.now) × (length passed.now ≤ at) × (judged.old < 65536) }
+    ensures moved { told_moved (say_by (whole_in changed)) log.now (state_at (made_fact log.now) passed.now judged.new) (length passed.now) at (made_fact log.now at) result ≡ advance (held_by (whole_in changed) (set_in changed)) (say_by (whole_in changed)) (model_of plan.entry.words.now) (length passed.now) (state_at (made_fact log.now) passed.now judged.old) at (drop at log.now) }
+    ensures leads { LeadsTo plan.entry.variables log.now at result }
+    ensures counted { judged.new ≤ judged.old + 1 }
 {
     if at >= log.len() {
-        return Moved::Stops(NO_CONCLUSION, at, false);
+        return Err(Reason::NoConclusion.at(at));
     }
-    let k = passed.len();
-    let g = steps::read_step(log, at, k, task.variables, task.rows);
-    let Past::Next(next) = g else {
-        return stopped(g);
+    let known = Known {
+        variables: Count { n: plan.variables },
+        rows: Count { n: plan.rows },
+        facts: Count { n: passed.len() },
+    };
+    let read = steps::read_step(log, at, known);
+    let Ok(next) = read else {
+        return Err(read.unwrap_err());
     };
     let step = steps::step_at(log, at);
-    let held = is_held(task, step);
-    let waved = !held;
-    if waved {
-        return after_passing(step, held, next, log.len());
+    let held = is_held(changed, step);
+    if held {
+        *judged += 1;
+        judging::judge(plan, log, passed, step, cells)?;
     }
-    let verdict = judging::judge(model, row_starts, task.variables, log, passed, step, cells);
-    match verdict {
-        Verdict::Passes => after_passing(step, held, next, log.len()),
-        Verdict::Fails(num, p) => Moved::Stops(num, p, held),
-    }
+    after_passing(step, next, log.len())
 }
 
-// How many steps were judged, with this one.
-fn count_held(held: bool, judged: u32) -> u32
-    requires { judged < 65536 }
-    ensures { result ≡ one_more held judged }
+// A log that gets through is accepted where all was checked, else carried.
+fn answer_of(changed: Option<u64>, c: Conclusion) -> Answer
+    ensures { result ≡ answer_by (whole_in changed) c }
 {
-    if held { judged + 1 } else { judged }
-}
-
-// In whole mode a log that gets through is accepted, else carried.
-fn answer_of(whole: bool, c: Conclusion) -> Answer
-    ensures { result ≡ answer_by whole c }
-{
-    if whole {
-        return Answer::Accepted(c);
+    match changed {
+        None => Answer::Accepted(c),
+        Some(_) => Answer::Carried(c),
     }
-    Answer::Carried(c)
 }
 
 // The first word of step k goes into the places.
@@ -178,47 +147,52 @@ fn note_start(k: usize, at: usize, places: &mut [u32])
     words::put_place(k, start, places);
 }
 
-// Every step from the first on. The first word of each step passed goes into the places.
+// Every step from the first on. The first word of each step passed goes into the places. No count ends it but a step, so the steps are counted
+// by hand.
 pub fn walk(
-    model: &[i32],
-    row_starts: &[u32],
-    task: Task,
+    plan: Plan,
+    changed: Option<u64>,
     log: &[i32],
     places: &mut [u32],
     cells: &mut [i32],
 ) -> Walked
-    requires { Planned model.now row_starts.now task.variables task.rows × (length log.now ≤ 65536) × (length log.now ≤ 4 * length places.old) × (box_room task.variables ≤ length cells.old) }
-    ensures { Tells result places.old places.new (over (held_by task.whole task.changed) (say_by task.whole) (model_of model.now) log.now) }
+    requires { (length log.now ≤ 65536) × (length log.now ≤ 4 * length places.old) × (box_room plan.variables ≤ length cells.old) }
+    ensures { Tells result places.old places.new (over (held_by (whole_in changed) (set_in changed)) (say_by (whole_in changed)) (model_of plan.entry.words.now) log.now) }
 {
     let mut at: usize = 0;
     let mut k: usize = 0;
     let mut judged: u32 = 0;
     loop {
-        let moved = one_step(model, row_starts, task, log, &places[..k], at, &mut *cells);
+        let moved = one_step(
+            plan,
+            changed,
+            log,
+            &places[..k],
+            at,
+            &mut judged,
+            &mut *cells,
+        );
         match moved {
-            Moved::Goes(next, held) => {
+            Ok(Onward::To(next)) => {
                 note_start(k, at, &mut *places);
-                judged = count_held(held, judged);
                 at = next;
                 k += 1;
             }
-            Moved::Ends(c, held) => {
+            Ok(Onward::End(c)) => {
                 note_start(k, at, places);
-                let count = count_held(held, judged);
                 return Walked {
-                    answer: answer_of(task.whole, c),
-                    judged: count,
+                    answer: answer_of(changed, c),
+                    judged,
                 };
             }
-            Moved::Stops(number, position, held) => {
-                let count = count_held(held, judged);
+            Err(refusal) => {
                 return Walked {
                     answer: Answer::Refused {
-                        number,
+                        reason: refusal.reason,
                         step: k as u32,
-                        position: position as u32,
+                        position: refusal.position as u32,
                     },
-                    judged: count,
+                    judged,
                 };
             }
         }

@@ -7,9 +7,9 @@ use Rattle.std.specs.Int.Count.{count_leading_zeros, count_trailing_zeros}
 use Rattle.std.proofs.Math.Pow.{pow-lt, ones_lt, ones_split, high}
 use Rattle.std.specs.Int.Signed.{le_z}
 use Rattle.std.specs.Int.{w32}
-use Rattle.words.specs.Int.{zz, eq_z, eq_z_eq, eq_z_t, eq_z_f}
+use Rattle.words.specs.Int.{zz, fits_read, sum, eq_z, eq_z_eq, eq_z_t, eq_z_f}
 use Rattle.words.specs.Words.{min_z, max_z, in_z}
-use Rattle.words.specs.ListFacts.{tested, same_test, and_true, and_both, le_of, of_le}
+use Rattle.words.specs.ListFacts.{tested, clash, same_test, and_true, and_both, le_of, of_le}
 use Rattle.words.specs.Bits.{bit, bit_or_lem, bit_but, bit_zero, bit_power, bit_full, bit_shifted, bits_same, lowest, highest}
 
 -- ---- the smaller and the larger of two
@@ -46,6 +46,10 @@ zeros_fewer false m p h = let t = highest 64 m p h in omega (arith, t.1)
 -- ---- a number that is small enough is a word
 pub small_word : (n : ℕ) → n < 2147483648 → to_z w32 n ≡ pos n
 small_word n h = let f : SFits w32 (pos n) = record { sfits = omega arith } in to_z-of_z f
+
+-- so is the last one of a window
+pub last_word : (base : ℤ) → SFits w32 base → base ≤ℤ pos 2147483584 → SFits w32 (base +ℤ pos 63)
+last_word base g h = omega (arith, zz, fits_read g, sum base (pos 63))
 
 -- ---- the numbers that the code makes
 pub ones_high : (n : ℕ) → n ≤ 64 → 18446744073709551615 / 2 ^ (64 - n) ≡ 2 ^ n - 1
@@ -95,6 +99,15 @@ module _ (base v : ℤ) where
 
   pub window_over : (base +ℤ pos 63) <ℤ v → Window (eq_z v) base 0
   window_over h = beyond (λ i k e. omega (arith, zz))
+
+  pub window_out : in_z base (base +ℤ pos 63) v ≡ false → Window (eq_z v) base 0
+  window_out n = beyond (λ i k e. clash (and_both (le_z base v) (le_z v (base +ℤ pos 63)) (of_le (low i e)) (of_le (high i k e))) n)
+    where
+      low : (i : ℕ) → v ≡ base +ℤ pos i → base ≤ℤ v
+      low i e = omega (arith, zz)
+
+      high : (i : ℕ) → i < 64 → v ≡ base +ℤ pos i → v ≤ℤ (base +ℤ pos 63)
+      high i k e = omega (arith, zz)
 
 -- where another test says no, there is none
 pub window_if : {p : ℤ → Bool} {base : ℤ} {m : ℕ} (c : Bool) → c ≡ true → Window p base m → Window (λ v. c && p v) base m

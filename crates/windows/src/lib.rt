@@ -11,7 +11,7 @@ fn ones(n: usize) -> u64
     requires { (0 < n) × (n ≤ 64) }
     ensures { result ≡ 2 ^ n - 1 }
 {
-    18446744073709551615u64 >> (64 - n)
+    u64::MAX >> (64 - n)
 }
 
 // The bits from one place to another.
@@ -30,49 +30,56 @@ fn offset(v: i32, base: i32) -> usize
     words::index(v - base)
 }
 
-// The values from one to another.
-pub fn range_mask(low: i32, high: i32, base: i32) -> u64
-    requires { base ≤ℤ pos 2147483584 }
-    ensures { Window (in_z low high) base result }
-{
-    let a = words::larger(low, base);
-    let b = words::smaller(high, base + 63);
-    if b < a {
-        return 0;
-    }
-    stretch(offset(a, base), offset(b, base))
+// Where a window begins. The last of its numbers is a word too.
+#[derive(Clone, Copy)]
+pub struct Base {
+    pub first: i32,
+    pub ghost early: { first ≤ℤ pos 2147483584 },
 }
 
-fn value_mask(v: i32, base: i32) -> u64
-    requires { base ≤ℤ pos 2147483584 }
-    ensures { Window (eq_z v) base result }
-{
-    if v < base {
-        return 0;
+impl Base {
+    // The values from one to another.
+    pub fn range_mask(self, low: i32, high: i32) -> u64
+        ensures { Window (in_z low high) self.first result }
+    {
+        let a = words::larger(low, self.first);
+        let b = words::smaller(high, self.first + 63);
+        if b < a {
+            return 0;
+        }
+        stretch(offset(a, self.first), offset(b, self.first))
     }
-    if base + 63 < v {
-        return 0;
-    }
-    1 << offset(v, base)
-}
 
-// What one hole takes from the variable `name`.
-pub fn taken_mask(variable: i32, taken: i32, name: i32, base: i32) -> u64
-    requires { base ≤ℤ pos 2147483584 }
-    ensures { Window (λ v. eq_z variable name && eq_z taken v) base result }
-{
-    if words::same(variable, name) {
-        return value_mask(taken, base);
+    fn value_mask(self, v: i32) -> u64
+        ensures { Window (eq_z v) self.first result }
+    {
+        if words::in_range(v, self.first, self.first + 63) {
+            1 << offset(v, self.first)
+        } else {
+            0
+        }
     }
-    0
+
+    // What one hole takes from the variable `name`.
+    pub fn taken_mask(self, variable: i32, taken: i32, name: i32) -> u64
+        ensures { Window (λ v. eq_z variable name && eq_z taken v) self.first result }
+    {
+        if variable == name {
+            self.value_mask(taken)
+        } else {
+            0
+        }
+    }
 }
 
 // How many numbers of a window come before the first that has its bit, seen from its low end (up) or from its high end.
 pub fn zeros(up: bool, m: u64) -> i32
     ensures { result ≡ pos (zeros up m) }
 {
-    if up {
-        return u64::trailing_zeros(m) as i32;
-    }
-    u64::leading_zeros(m) as i32
+    let n = if up {
+        m.trailing_zeros()
+    } else {
+        m.leading_zeros()
+    };
+    n as i32
 }

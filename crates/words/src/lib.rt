@@ -6,15 +6,17 @@ ghost use Rattle.std.specs.Int.Signed.{le_z};
 ghost use Rattle.words.specs.Int.{eq_z};
 ghost use Rattle.words.specs.Words.{min_z, max_z, in_z};
 
-// Fact numbers, row numbers and variable numbers are three kinds.
-#[derive(Clone, Copy)]
+// Fact numbers, row numbers and variable numbers are three kinds, which document 01 keeps apart.
+#[derive(Clone, Copy, PartialEq, Eq, PartialOrd, Ord, Debug)]
 pub struct FactNo(pub usize);
 
-#[derive(Clone, Copy)]
+#[derive(Clone, Copy, PartialEq, Eq, PartialOrd, Ord, Debug)]
 pub struct RowNo(pub usize);
 
-#[derive(Clone, Copy)]
+#[derive(Clone, Copy, PartialEq, Eq, PartialOrd, Ord, Debug)]
 pub struct VarNo(pub usize);
+
+// Comparisons and conversions stay functions: each says in the words of specs/Words what std says in its own, and has an edit that holds it.
 
 pub fn at_most(a: i32, b: i32) -> bool
     ensures { result ≡ le_z a b }
@@ -31,22 +33,19 @@ pub fn same(a: i32, b: i32) -> bool
 pub fn smaller(a: i32, b: i32) -> i32
     ensures { result ≡ min_z a b }
 {
-    if a <= b { a } else { b }
+    a.min(b)
 }
 
 pub fn larger(a: i32, b: i32) -> i32
     ensures { result ≡ max_z a b }
 {
-    if a <= b { b } else { a }
+    a.max(b)
 }
 
 pub fn in_range(x: i32, lo: i32, hi: i32) -> bool
     ensures { result ≡ in_z lo hi x }
 {
-    if x < lo {
-        return false;
-    }
-    x <= hi
+    (lo..=hi).contains(&x)
 }
 
 // The number that a word is, where it is not negative.

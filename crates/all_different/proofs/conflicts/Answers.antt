@@ -9,4 +9,4 @@ use Rattle.all_different.proofs.conflicts.Goals as goal
 pub crowded-requires : goal.crowded-requires
 crowded-requires c =
     let a = c.args in
-    (c.requires.3, subst (All (λ (x : ℕ). x < variables a.cells.now)) (sym c.choose-count.ensures.1) (chosen_known (marked a.occurring.now) (nat_at a.model.now a.p) a.model.now (a.p + 1) c.requires.1))
+    subst (All (λ (x : ℕ). x < variables a.ready.cells.words.now)) (sym c.choose-chosen.ensures) (chosen_known (marked a.occurring.now) (nat_at a.model.now a.p) a.model.now (a.p + 1) c.requires.1)

@@ -1,13 +1,9 @@
-use Rattle.std.proofs.Common.{◌-◌, ◌≡◌, ◌≤◌, length, drop}
-use Rattle.std.proofs.Math.Option.{none}
+use Rattle.std.proofs.Common.{◌≡◌, drop}
+use Rattle.std.specs.Prelude.{None}
 use Rattle.domain.specs.Box.{values}
-use Rattle.domain.specs.Told.{told_next}
+use Rattle.all_different.specs.Chosen.{numbers}
 use Rattle.all_different.specs.Soonest.{soonest_of}
 use Rattle.all_different.proofs.next_value.Given as goal
 
-abbrev pub invariant-loop-i : goal.invariant-loop-i
-invariant-loop-i l =
-    (l.i ≤ length l.xs) × (soonest_of l.from (values l.cells) none l.xs ≡ soonest_of l.from (values l.cells) (told_next l.best) (drop l.i l.xs))
-
-abbrev pub decreases-loop-i : goal.decreases-loop-i
-decreases-loop-i l = length l.xs - l.i
+abbrev pub invariant-loop-x : goal.invariant-loop-x
+invariant-loop-x l = soonest_of l.from (values l.cells.words.now) None (numbers l.xs) ≡ soonest_of l.from (values l.cells.words.now) l.best (numbers (drop l.x-index l.xs))

@@ -1,17 +1,12 @@
-use Rattle.std.proofs.Common.{◌∙◌, sym, arith, false}
-use Rattle.boxes.specs.InTurn.{rest_more, rest_none}
-use Rattle.boxes.specs.Boxes.{or_empty}
+use Rattle.std.proofs.Common.{◌+◌, ◌*◌, ◌∙◌, refl, rules, tests, arith}
+use Rattle.std.proofs.lemmas.Iterator.{YieldsList-from_range}
+use Rattle.std.proofs.lemmas.Iterator.Search.{any_from_yields_List}
+use Rattle.boxes.specs.InTurn.{some_in_turn}
+use Rattle.boxes.specs.Boxes.{empty_at}
 use Rattle.boxes.proofs.is_empty_each.Goals as goal
 
-pub returns-then-is_empty_at : goal.returns-then-is_empty_at
-returns-then-is_empty_at c =
-    let a = c.args in
-    sym (c.loop-i.invariant.1 ∙ rest_more (or_empty a.log.now a.cells.now) a.count a.from false c.loop-i.i c.loop-i-test.true ∙ rw (sym c.is_empty_at.ensures ∙ c.if-is_empty_at.true))
-
-pub loop-i-preserved : goal.loop-i-preserved
-loop-i-preserved c =
-    let a = c.args in
-    (omega arith, c.loop-i.invariant.1 ∙ rest_more (or_empty a.log.now a.cells.now) a.count a.from false c.loop-i.i c.loop-i-test.true ∙ rw (sym c.is_empty_at.ensures ∙ c.if-is_empty_at.false))
-
 pub returns : goal.returns
-returns c = let a = c.args in sym (c.loop-i.invariant.1 ∙ rest_none (or_empty a.log.now a.cells.now) a.count a.from false c.loop-i.i c.loop-i-test.false)
+returns c =
+    let a = c.args in
+    any_from_yields_List (λ i. empty_at a.log.now (a.atoms.from + i * 3) a.cells.words.now) _ _ _ c.any.ensures.ran (YieldsList-from_range 0 a.atoms.many a.atoms.many refl (omega arith)) (λ x b q k. search (rules, tests))
+    ∙ some_in_turn (λ p. empty_at a.log.now p a.cells.words.now) a.atoms.from a.atoms.many

@@ -12,9 +12,8 @@ loop-i-preserved c =
     let l = c.loop-i in
     let a = c.args in
     let q : a.p + l.i * 1 ≡ a.p + l.i = omega arith in
-    let e = c.variable_at-x.ensures ∙ ap (nat_at a.model.now) (sym q) ∙ sym (get_or_each nat_at 1 a.n a.model.now a.p l.i 0 c.loop-i-test.true) in (
-      omega arith,
-      length-set l.table l.i c.targets.result ∙ l.invariant.1,
-      rows_more _ _ l.i l.table (omega arith) l.invariant.2
-          (subst (λ x. Mask a.n (λ j. member eq_z (pos j) (values a.cells.now x)) c.targets.result) e c.targets.ensures),
+    let e = c.variable_at-x.ensures ∙ ap (nat_at a.model.now) (sym q) ∙ sym (get_or_each nat_at 1 a.n a.model.now a.p l.i 0 (omega arith)) in (
+      length-set l.table l.i c.targets.result ∙ l.invariant.0,
+      rows_more _ _ l.i l.table (omega arith) l.invariant.1
+          (subst (λ x. Mask a.n (λ j. member eq_z (pos j) (values a.cells.words.now x)) c.targets.result) e c.targets.ensures),
     )

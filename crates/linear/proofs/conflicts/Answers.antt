@@ -15,8 +15,8 @@ more c =
     let i = c.loop-i.i in
     let x = nat_at a.model.now (a.p + 2 + i * 2 + 1) in
     let k = get_or a.model.now (a.p + 2 + i * 2) (pos 0) in
-    let t = term_small k (values a.cells.now x) (c.requires.2.small i (omega arith)) (c.requires.3.small x) in
-    more_small (to_z w64 c.loop-i.sum-bits) c.least_term-sum.result i (omega arith) c.loop-i.invariant.1 (rw (sym c.least_term-sum.ensures) at t)
+    let t = term_small k (values a.ready.cells.words.now x) (c.requires.2.small i (omega arith)) (a.ready.ready.small x) in
+    more_small (to_z w64 c.loop-i.sum-bits) c.least_term-sum.result i (omega arith) c.loop-i.invariant.0 (rw (sym c.least_term-sum.ensures) at t)
 
 pub overflow_add-sum : goal.overflow_add-sum
 overflow_add-sum c = let f = fit w64 c.least_term-sum.result c.least_term-sum.type_inv in simp to_z-of_z (more c).1
@@ -26,13 +26,13 @@ loop-i-preserved c =
     let a = c.args in
     let f = fit w64 c.least_term-sum.result c.least_term-sum.type_inv in
     let g = (more c).1 in
-    let e = sum_next (values a.cells.now) (nat_at a.model.now a.p) a.model.now (a.p + 2) c.loop-i.i (to_z w64 c.loop-i.sum-bits) (omega arith) c.loop-i.invariant.2 in
-    (omega arith, simp to_z-of_z (more c).0, simp to_z-of_z (rw (sym c.least_term-sum.ensures) at e))
+    let e = sum_next (values a.ready.cells.words.now) (nat_at a.model.now a.p) a.model.now (a.p + 2) c.loop-i.i (to_z w64 c.loop-i.sum-bits) (omega arith) c.loop-i.invariant.1 in
+    (simp to_z-of_z (more c).0, simp to_z-of_z (rw (sym c.least_term-sum.ensures) at e))
 
 pub returns : goal.returns
 returns c =
     let a = c.args in
     let f : SFits w32 (get_or a.model.now (a.p + 1) (pos 0)) = search rules in
     let g = wide f in
-    let e = sum_end (values a.cells.now) (nat_at a.model.now a.p) a.model.now (a.p + 2) c.loop-i.i (to_z w64 c.loop-i.sum-bits) (omega arith) c.loop-i.invariant.2 in
+    let e = sum_end (values a.ready.cells.words.now) (nat_at a.model.now a.p) a.model.now (a.p + 2) c.loop-i.i (to_z w64 c.loop-i.sum-bits) (omega arith) c.loop-i.invariant.1 in
     rw (sym e) (simp to_z-of_z)

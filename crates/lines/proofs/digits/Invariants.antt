@@ -1,8 +1,8 @@
-use Rattle.std.proofs.Common.{length, ◌-◌, ◌≤◌}
+use Rattle.std.proofs.Common.{length, ◌≤◌}
 use Rattle.lines.proofs.digits.Given as goal
 
-abbrev pub invariant-loop-at : goal.invariant-loop-at
-invariant-loop-at l = l.size ≤ 4000000000
+abbrev pub invariant-loop-d : goal.invariant-loop-d
+invariant-loop-d l = l.size ≤ 4000000000
 
-abbrev pub decreases-loop-at : goal.decreases-loop-at
-decreases-loop-at l = length l.text - l.at
+abbrev pub decreases-loop-d : goal.decreases-loop-d
+decreases-loop-d l = length l.rest

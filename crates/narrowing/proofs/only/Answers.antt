@@ -11,8 +11,8 @@ returns-then-has c =
     simp to_z-of_z at c.put.ensures
     ∙ ap (λ m. bounded c.args.cells.now c.args.x.0 m m) (sym (only_has c.args.value (values c.args.cells.now c.args.x.0) (simp to_z-of_z at (sym c.has.ensures ∙ c.if-has.true))))
 
-pub returns : goal.returns
-returns c =
+pub returns-else-has : goal.returns-else-has
+returns-else-has c =
     let f = c.ranges.value in
-    c.put-2.ensures
+    c.put-else-has.ensures
     ∙ ap (λ m. bounded c.args.cells.now c.args.x.0 m m) (sym (only_not c.args.value (values c.args.cells.now c.args.x.0) (simp to_z-of_z at (sym c.has.ensures ∙ c.if-has.false))))

@@ -1,11 +1,8 @@
--- What is found is what the first k pairs say.
-use Rattle.std.proofs.Common.{◌-◌, ◌≤◌}
+-- What is found is what the pairs before this one say.
+use Rattle.std.proofs.Common.{take}
 use Rattle.windows.specs.Window.{Window}
 use Rattle.pairs.specs.Pairs.{among}
 use Rattle.pairs.proofs.mask.Given as goal
 
-abbrev pub invariant-loop-k : goal.invariant-loop-k
-invariant-loop-k l = (l.k ≤ l.many) × Window (among l.table l.first l.k l.name) l.base l.found
-
-abbrev pub decreases-loop-k : goal.decreases-loop-k
-decreases-loop-k l = l.many - l.k
+abbrev pub invariant-loop-pair : goal.invariant-loop-pair
+invariant-loop-pair l = Window (among (take l.pair-index l.pairs) l.name) l.base.first l.found

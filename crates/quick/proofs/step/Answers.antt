@@ -1,5 +1,6 @@
+use Rattle.std.proofs.Common.{sym}
 use Rattle.quick.specs.Ends.{step_over}
 use Rattle.quick.proofs.step.Goals as goal
 
 pub returns : goal.returns
-returns c = record { over = λ h. step_over c.args.v c.args.rows c.args.k (c.number-kind.ensures c.if-kind-gt2.false) c.if-kind-eq0.false c.if-from-eq0.false h c.fact_start-from.ensures (c.fact-end.ensures.over c.if-end-eq0.false) c.after_fact.ensures }
+returns c = step_over c.args.known.variables.n c.args.known.rows.n c.args.known.facts.n c.from-kind.result _ c.in_ok-number.ensures (sym c.from-kind.ensures) c.in_ok-from.ensures c.in_ok-end.ensures c.after_fact.ensures

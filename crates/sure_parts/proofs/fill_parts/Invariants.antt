@@ -1,10 +1,10 @@
-use Rattle.std.proofs.Common.{◌-◌, ◌≤◌}
+-- The first k places are filled.
+use Rattle.std.proofs.Common.{◌≡◌, ◌<◌, ℕ, ◌+◌, ◌*◌, get_or}
+use Rattle.model.specs.Rows.{activity_at}
 use Rattle.domain.specs.Box.{values}
-use Rattle.sure_parts.specs.Fill.{Filled}
+use Rattle.sure_parts.specs.Table.{nothing}
+use Rattle.sure_parts.specs.Parts.{part_of}
 use Rattle.sure_parts.proofs.fill_parts.Given as goal
 
 abbrev pub invariant-loop-k : goal.invariant-loop-k
-invariant-loop-k l = (l.k ≤ l.n) × Filled (values l.cells) l.model l.q l.k l.parts
-
-abbrev pub decreases-loop-k : goal.decreases-loop-k
-decreases-loop-k l = l.n - l.k
+invariant-loop-k l = (j : ℕ) → j < l.k → get_or l.parts j nothing ≡ part_of (values l.ready.cells.words.now) (activity_at l.model (l.q + j * 3))

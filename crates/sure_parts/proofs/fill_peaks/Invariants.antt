@@ -1,9 +1,7 @@
-use Rattle.std.proofs.Common.{◌-◌, ◌≤◌}
-use Rattle.sure_parts.specs.Fill.{Peaked}
+-- The first k entries are there.
+use Rattle.std.proofs.Common.{◌≡◌, ◌<◌, length, ℕ, get_or, pos}
+use Rattle.sure_parts.specs.Table.{peak}
 use Rattle.sure_parts.proofs.fill_peaks.Given as goal
 
 abbrev pub invariant-loop-k : goal.invariant-loop-k
-invariant-loop-k l = (l.k ≤ l.n) × Peaked l.parts l.n l.k l.peaks
-
-abbrev pub decreases-loop-k : goal.decreases-loop-k
-decreases-loop-k l = l.n - l.k
+invariant-loop-k l = (length l.peaks ≡ length l.parts) × ((j : ℕ) → j < l.k → get_or l.peaks j (pos 0) ≡ peak l.parts (length l.parts) j)

@@ -1,6 +1,5 @@
-use Rattle.reading.specs.Back.{below_back}
-use Rattle.reading.specs.Over.{goes, gives}
+use Rattle.reading.specs.Over.{goes_any, gives}
 use Rattle.careful.proofs.kinds.inference.Goals as goal
 
 pub returns : goal.returns
-returns c = goes c.below-r.ensures (below_back 11 12 c.args.rows) c.in-Next.is _ (gives c.fact.ensures _)
+returns c = goes_any c.in_ok-fact.ensures _ (λ r. gives _ c.fact.ensures)

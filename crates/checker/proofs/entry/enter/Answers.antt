@@ -5,4 +5,4 @@ use Rattle.checker.proofs.entry.enter.Goals as goal
 pub returns : goal.returns
 returns c =
     let a = c.args in
-    read_so a.model.now a.log.now a.places (sizes_fit a.model.now a.log.now a.places c.sizes-p.ensures c.in-Next.is) a.row_starts.now _ c.read_model.result c.read_model.ensures.read c.read_model.ensures.noted c.requires
+    read_so a.model.now a.log.now a.places (sizes_fit a.model.now a.log.now a.places c.in_ok-sizes.ensures) c.read.result c.read.ensures

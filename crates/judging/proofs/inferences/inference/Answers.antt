@@ -1,37 +1,37 @@
 use Rattle.std.proofs.Common.{◌∙◌, sym, arith, true, false}
-use Rattle.judging.specs.Judged.{declared, full_formed, full_variables, ready, empty_so, row_so}
+use Rattle.std.proofs.lemmas.Result.{err_from_is_err_and}
+use Rattle.judging.specs.Judged.{asked_of, full_formed, full_variables, ready, empty_so, row_so}
 use Rattle.judging.proofs.inferences.inference.Goals as goal
 
-pub is_box_empty-requires : goal.is_box_empty-requires
-is_box_empty-requires c =
-    let p = c.requires in
-    let a = c.args in
-    rw (c.fill.ensures, full_variables a.model.now a.log.now a.cells.now a.v a.fact (declared p.0) p.2 p.3) (p.2, full_formed a.model.now a.log.now a.cells.now a.v a.fact (declared p.0) p.2 p.3)
+pub returns-in_err-fill_box : goal.returns-in_err-fill_box
+returns-in_err-fill_box c =
+    let h = c.in_err-fill_box.ensures in
+    let p = err_from_is_err_and c.from_residual.result c.from_residual.ensures.1 in
+    rw (p.1, p.2, h.told.1, h.told.2) (empty_so (asked_of c.args.plan.planned c.requires.1 c.requires.2) c.args.r.0 (rw h.filled at h.told.0))
 
-pub returns-then-is_box_empty : goal.returns-then-is_box_empty
-returns-then-is_box_empty c =
-    let p = c.requires in
-    let a = c.args in
-    empty_so a.model.now a.log.now a.cells.now a.v a.fact (declared p.0) p.2 p.3 a.r.0 (rw c.fill.ensures at (sym c.is_box_empty.ensures ∙ c.if-is_box_empty.true))
+pub invariant_of-cells : goal.invariant_of-cells
+invariant_of-cells c = record { formed = rw c.in_ok-fill_box.ensures.filled (full_formed (asked_of c.args.plan.planned c.requires.1 c.requires.2)) }
+
+pub invariant_of-ready : goal.invariant_of-ready
+invariant_of-ready c =
+    let h = c.in_ok-fill_box.ensures in
+    record { ready = rw h.filled (ready (asked_of c.args.plan.planned c.requires.1 c.requires.2) (rw h.filled at h.told)) }
 
 pub row_conflicts-requires : goal.row_conflicts-requires
 row_conflicts-requires c =
-    let p = c.requires in
-    let a = c.args in
-    let q = c.fill.ensures in
-    let no = rw q at (sym c.is_box_empty.ensures ∙ c.if-is_box_empty.false) in
-    rw (q, full_variables a.model.now a.log.now a.cells.now a.v a.fact (declared p.0) p.2 p.3) (p.0.row_in a.r.0 p.1, p.2, omega (arith, p.0.few_variables), ready a.model.now a.log.now a.cells.now a.v a.fact (declared p.0) p.2 p.3 no)
+    let p = c.args.plan.planned in
+    let h = c.in_ok-fill_box.ensures in
+    let g = asked_of p c.requires.1 c.requires.2 in
+    rw (h.filled, full_variables g) (p.row_in c.args.r.0 c.requires.0, g.known, omega (arith, p.few_variables))
 
 pub returns-then-row_conflicts : goal.returns-then-row_conflicts
 returns-then-row_conflicts c =
-    let p = c.requires in
-    let a = c.args in
-    let q = c.fill.ensures in
-    row_so a.model.now a.log.now a.cells.now a.v a.fact (declared p.0) p.2 p.3 a.r.0 (rw q at (sym c.is_box_empty.ensures ∙ c.if-is_box_empty.false)) _ (p.0.row_is a.r.0 p.1) true (rw q at (sym c.if-row_conflicts.true ∙ c.row_conflicts.ensures))
+    let p = c.args.plan.planned in
+    let h = c.in_ok-fill_box.ensures in
+    row_so (asked_of p c.requires.1 c.requires.2) c.args.r.0 (rw h.filled at h.told) _ (p.row_is c.args.r.0 c.requires.0) true (rw h.filled at (sym c.if-row_conflicts.true ∙ c.row_conflicts.ensures))
 
 pub returns : goal.returns
 returns c =
-    let p = c.requires in
-    let a = c.args in
-    let q = c.fill.ensures in
-    row_so a.model.now a.log.now a.cells.now a.v a.fact (declared p.0) p.2 p.3 a.r.0 (rw q at (sym c.is_box_empty.ensures ∙ c.if-is_box_empty.false)) _ (p.0.row_is a.r.0 p.1) false (rw q at (sym c.if-row_conflicts.false ∙ c.row_conflicts.ensures))
+    let p = c.args.plan.planned in
+    let h = c.in_ok-fill_box.ensures in
+    rw (c.at.ensures.0, c.at.ensures.1) (row_so (asked_of p c.requires.1 c.requires.2) c.args.r.0 (rw h.filled at h.told) _ (p.row_is c.args.r.0 c.requires.0) false (rw h.filled at (sym c.if-row_conflicts.false ∙ c.row_conflicts.ensures)))

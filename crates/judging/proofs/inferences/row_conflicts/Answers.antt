@@ -14,4 +14,4 @@ pub returns : goal.returns
 returns c =
     let a = c.args in
     let h = c.requires.2 in
-    c.conflicts.ensures _ (rw c.mark_where_asked.ensures (asked_occurs a.log.now a.fact (variables a.cells.now) mark_words (nat_at a.model.now a.at) (omega arith) c.requires.1))
+    c.conflicts.ensures _ (rw c.mark_where_asked.ensures (asked_occurs a.log.now a.fact (variables a.ready.cells.words.now) mark_words (nat_at a.model.now a.at) (omega arith) c.requires.1))

@@ -11,4 +11,4 @@ use Rattle.model.proofs.bounds.pair.Goals as goal
 pub returns : goal.returns
 returns c =
     let f : SFits w32 c.word-low.result = search rules in
-    goes c.within-l.ensures (word_back 4 5 (neg most_value) (pos most_value)) c.in-Next.is _ (gives (rw c.word-low.ensures at (simp to_z-of_z at c.integer.ensures)) _)
+    goes c.in_ok-n.ensures (word_back 4 5 (neg most_value) (pos most_value)) _ (gives _ (rw c.word-low.ensures at (simp to_z-of_z at c.word.ensures)))

@@ -1,15 +1,7 @@
+use Rattle.std.proofs.Common.{rules}
 use Rattle.meaning.specs.Model.{bounds_pair}
-use Rattle.reading.specs.Over.{first_turn, turn_stops, turn_more, turns_end}
+use Rattle.reading.specs.Turns.{turns_skim}
 use Rattle.model.proofs.bounds.pairs.Goals as goal
 
-pub loop-i-init : goal.loop-i-init
-loop-i-init c = first_turn bounds_pair c.args.s.now c.args.from c.args.v
-
-pub returns-in_default : goal.returns-in_default
-returns-in_default c = turn_stops c.loop-i.invariant c.loop-i-test.true c.pair-p.ensures c.in_default.is
-
-pub loop-i-preserved : goal.loop-i-preserved
-loop-i-preserved c = turn_more c.loop-i.invariant c.loop-i-test.true c.pair-p.ensures c.in-Next.is
-
 pub returns : goal.returns
-returns c = turns_end c.loop-i.invariant c.loop-i-test.false
+returns c = turns_skim bounds_pair c.args.s.now (λ at q h. search rules) _ _ _ c.times.ensures

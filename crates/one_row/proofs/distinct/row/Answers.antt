@@ -3,4 +3,4 @@ use Rattle.reading.specs.Over.{gives, counts}
 use Rattle.one_row.proofs.distinct.row.Goals as goal
 
 pub returns : goal.returns
-returns c = counts 4 5 2 most_parts c.number-g.ensures c.in-Next.is c.number_at-n.ensures _ (gives c.variables.ensures _)
+returns c = counts 4 5 2 most_parts c.in_ok-next.ensures c.number_at-n.ensures _ (gives _ c.variables.ensures)

@@ -1,15 +1,19 @@
-use Rattle.std.proofs.Common.{sym, ◌∙◌}
-use Rattle.one_row.specs.Fresh.{first_fresh, fresh_stops, fresh_twice, fresh_more}
+use Rattle.std.proofs.Common.{ap, ◌∙◌}
+use Rattle.std.proofs.lemmas.Result.{err_from_is_err_and}
+use Rattle.reading.specs.Reasons.{number_of}
+use Rattle.one_row.specs.Fresh.{first_fresh, fresh_stops, tested, fresh_twice, fresh_more}
 use Rattle.one_row.proofs.distinct.variables.Goals as goal
 
-pub loop-i-init : goal.loop-i-init
-loop-i-init c = first_fresh c.args.v c.args.s.now c.args.from c.args.n
+pub loop-init : goal.loop-init
+loop-init c = first_fresh c.args.v.n c.args.s.now c.args.from c.args.n
 
-pub returns-in_default : goal.returns-in_default
-returns-in_default c = fresh_stops c.loop-i.invariant c.loop-i-test.true c.variable-p.ensures c.in_default.is
+pub returns-in_err-next : goal.returns-in_err-next
+returns-in_err-next c =
+    let p = err_from_is_err_and c.from_residual.result c.from_residual.ensures.1 in
+    rw (p.1, p.2) (fresh_stops c.loop.invariant c.loop-test.true c.in_err-next.ensures)
 
-pub returns-then-stands : goal.returns-then-stands
-returns-then-stands c = fresh_twice c.loop-i.invariant c.loop-i-test.true c.variable-p.ensures c.in-Next.is c.number_at-x.ensures (sym c.stands.ensures ∙ c.if-stands.true)
+pub returns-then-contains : goal.returns-then-contains
+returns-then-contains c = fresh_twice c.loop.invariant c.loop-test.true c.in_ok-next.ensures (ap number_of c.at.ensures.0) c.at.ensures.1 (tested c.loop.invariant c.loop-test.true c.in_ok-next.ensures c.contains.result c.contains.ensures.cases ∙ c.if-contains.true)
 
-pub loop-i-preserved : goal.loop-i-preserved
-loop-i-preserved c = fresh_more c.loop-i.invariant c.loop-i-test.true c.variable-p.ensures c.in-Next.is c.number_at-x.ensures (sym c.stands.ensures ∙ c.if-stands.false)
+pub loop-preserved : goal.loop-preserved
+loop-preserved c = fresh_more c.loop.invariant c.loop-test.true c.in_ok-next.ensures (tested c.loop.invariant c.loop-test.true c.in_ok-next.ensures c.contains.result c.contains.ensures.cases ∙ c.if-contains.false)

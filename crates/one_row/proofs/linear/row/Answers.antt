@@ -6,4 +6,4 @@ use Rattle.reading.specs.Over.{goes, gives, counts}
 use Rattle.one_row.proofs.linear.row.Goals as goal
 
 pub returns : goal.returns
-returns c = counts 4 5 1 most_parts c.number-g.ensures c.in-Next.is c.number_at-n.ensures _ (goes c.integer-b.ensures (word_back 4 5 (neg 2147483648) (pos 2147483647)) c.in-Next-b.is _ (gives c.terms.ensures _))
+returns c = counts 4 5 1 most_parts c.in_ok-next.ensures c.number_at-n.ensures _ (goes c.in_ok-from.ensures (word_back 4 5 (neg 2147483648) (pos 2147483647)) _ (gives _ c.terms.ensures))

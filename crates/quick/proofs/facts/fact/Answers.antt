@@ -1,5 +1,5 @@
-use Rattle.quick.specs.Ends.{fact_over}
+use Rattle.quick.specs.Ends.{fact_ends}
 use Rattle.quick.proofs.facts.fact.Goals as goal
 
 pub returns : goal.returns
-returns c = record { over = λ h. fact_over c.args.v (c.premises-end.ensures.over c.if-end-eq0.false) (c.consequent.ensures.over h) }
+returns c = fact_ends c.args.v.n _ c.in_ok-end.ensures c.consequent.ensures
