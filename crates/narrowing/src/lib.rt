@@ -152,8 +152,10 @@ pub fn load(words: &[i32], at: usize, count: usize, cells: &mut [i32])
     requires { (at + 2 * count ≤ length words.now) × (2 * count + 2 ≤ length cells.old) × (count < 2147483648) }
     ensures { cells.new ≡ loaded words.now at count cells.old }
 {
-    let many = 2 * count;
-    cells[2..2 + many].copy_from_slice(&words[at..at + many]);
+    // Kept as a loop: tried with `copy_from_slice`, and a check is slower by the call that it makes for a few words.
+    for k in 0..2 * count {
+        cells[k + 2] = words[at + k];
+    }
     cells[0] = count as i32;
     cells[1] = 0;
 }
