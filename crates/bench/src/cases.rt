@@ -9,8 +9,8 @@ use std::io;
 fn asked(rt: &impl Print, c: &Case, places: &mut [u32]) -> io::Result<()> {
     let model = c.model.words();
     let log = c.log.words();
-    let a = match &c.old {
-        Some(old) => dimpsyholt::dimpsyholt_recheck(old.words(), model, log, places),
+    let a = match c.old() {
+        Some(old) => dimpsyholt::dimpsyholt_recheck(old, model, log, places),
         None => dimpsyholt::dimpsyholt_check(model, log, places),
     };
     show::answer(rt, a)

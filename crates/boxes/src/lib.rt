@@ -78,7 +78,8 @@ fn narrow_then(log: &[i32], consequent: Run, cells: &mut [i32])
     }
 }
 
-// The declared bounds of the model's variables, narrowed by the fact.
+// The declared bounds of the model's variables, narrowed by the fact. It is put into its callers, for a call at each step makes a check slower.
+#[inline(always)]
 pub fn fill(model: &[i32], v: usize, log: &[i32], fact: FactPlace, cells: &mut [i32])
     requires { (1 + 2 * v ≤ length model.now) × (v ≤ 65536) × FactIn v log.now fact × (hole_place v (most_premises + 1) ≤ length cells.old) }
     ensures { cells.new ≡ filled model.now v log.now fact cells.old }

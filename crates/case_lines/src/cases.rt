@@ -1,5 +1,6 @@
 // A line gives one table of a case, or asks for its answer.
-ghost use Rattle.std.specs.Prelude.{◌≡◌, ◌≤◌, length, replicate, take};
+ghost use Rattle.std.proofs.Props.{props};
+ghost use Rattle.std.specs.Prelude.{◌≡◌, ◌≤◌, length, replicate, take, IfSome, option_copied, option_map};
 
 use crate::show;
 use lines;
@@ -15,7 +16,7 @@ const LOG_ROOM: usize = MOST_LOG_WORDS + 1;
 pub const MOST_PLACES: usize = FEWEST_PLACES;
 
 // The words of a table: so many at the front of the room.
-#[derive(Drop)]
+#[derive(Clone, Copy)]
 pub struct Table<const ROOM: usize> {
     room: [i32; ROOM],
     count: usize,
@@ -23,11 +24,17 @@ pub struct Table<const ROOM: usize> {
 }
 
 impl<const ROOM: usize> Table<ROOM> {
-    // The words of a line.
-    fn of(text: &[u8]) -> Table<ROOM> {
-        let mut room = [0; ROOM];
-        let count = lines::fill(text, &mut room);
-        Table { room, count }
+    // Before any line.
+    fn new() -> Table<ROOM> {
+        Table {
+            room: [0; ROOM],
+            count: 0,
+        }
+    }
+
+    // The words of a line, put where the words before them were: the room is neither emptied nor moved.
+    fn take(&mut self, text: &[u8]) {
+        self.count = lines::fill(text, &mut self.room);
     }
 
     pub fn words(&self) -> &[i32]
@@ -37,24 +44,35 @@ impl<const ROOM: usize> Table<ROOM> {
     }
 }
 
-// The tables of a case, with an old model where it is checked again, and how many places are lent.
-#[derive(Drop)]
+// The tables of a case, and how many places are lent. The room of an old model stays where there is none.
+#[derive(Clone, Copy)]
 pub struct Case {
-    pub old: Option<Table<MODEL_ROOM>>,
+    old_room: [i32; MODEL_ROOM],
+    old_count: Option<usize>,
     pub model: Table<MODEL_ROOM>,
     pub log: Table<LOG_ROOM>,
     pub lent: usize,
+    ghost old_within: { IfSome old_count (λ n. n ≤ length old_room) } by { Prim.hlevel props },
 }
 
 impl Case {
     // Before any line.
     pub fn new() -> Case {
         Case {
-            old: None,
-            model: Table::of(b""),
-            log: Table::of(b""),
+            old_room: [0; MODEL_ROOM],
+            old_count: None,
+            model: Table::new(),
+            log: Table::new(),
             lent: 0,
         }
+    }
+
+    // The words of the old model, where the case is checked again.
+    pub fn old(&self) -> Option<&[i32]>
+        ensures { option_copied result ≡ option_map (λ n. take n self.now.old_room) self.now.old_count }
+    {
+        let n = self.old_count?;
+        Some(&self.old_room[..n])
     }
 
     // A line that asks for nothing, by its first letters: case, lent, log, old, model. A new case keeps the model and the log.
@@ -62,13 +80,15 @@ impl Case {
         match text {
             [b'c', _, ..] => {
                 show::line(rt, text)?;
-                self.old = None;
+                self.old_count = None;
                 self.lent = MOST_PLACES;
             }
             [b'l', b'e', ..] => self.lent = first_number(behind(text, b"lent")),
-            [b'l', _, ..] => self.log = Table::of(behind(text, b"log")),
-            [b'o', _, ..] => self.old = Some(Table::of(behind(text, b"old"))),
-            [b'm', _, ..] => self.model = Table::of(behind(text, b"model")),
+            [b'l', _, ..] => self.log.take(behind(text, b"log")),
+            [b'o', _, ..] => {
+                self.old_count = Some(lines::fill(behind(text, b"old"), &mut self.old_room));
+            }
+            [b'm', _, ..] => self.model.take(behind(text, b"model")),
             _ => {}
         }
         Ok(())

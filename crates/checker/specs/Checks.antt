@@ -17,11 +17,10 @@ use Rattle.row_set.specs.Bits.{bit_at}
 use Rattle.amend.specs.Changed.{Answered}
 use Rattle.amend.specs.Only.{Otherwise, refused, unfit, whole_told, partly_told}
 use Rattle.walking.specs.Told.{told_answer, held_by, say_by, NamesIn, Tells}
-use Rattle.reading.specs.Reasons.{number_of}
-use Rattle.reading.specs.declared.refusals.Refusal.{Refusal}
 use Rattle.model.specs.declared.Plan.{Plan}
-use Rattle.checker.specs.Entry.{RefusedAt, OpenTo, Enters, ToldEarly}
+use Rattle.checker.specs.Entry.{RefusedAt, OpenTo, Enters}
 use Rattle.walking.specs.declared.Answer.{Answer}
+use Rattle.walking.specs.declared.Answer.TheVariants as answer
 use Rattle.walking.specs.declared.Walked.{Walked}
 use Rattle.checker.specs.declared.Rechecked.{Rechecked}
 
@@ -52,7 +51,7 @@ module _ (model log : List ℤ) (places : ℕ) where
   check_open : {starts : List ℕ} {v c : ℕ} → OpenTo model log places starts v c → says.check model log places ≡ says.over (λ t. true) says.accepted (model_of model) log
   check_open o = o.on (λ m. says.over (λ t. true) says.accepted m log)
 
-  pub checks_refused : (lent : List ℕ) {e : Refusal} {r : Answer} → RefusedAt model log places (number_of e.reason) e.position → ToldEarly e r → Checks r lent lent (says.check model log places)
+  pub checks_refused : (lent : List ℕ) {num p : ℕ} {r : Answer} → RefusedAt model log places num p → r ≡ answer.Refused num 0 p → Checks r lent lent (says.check model log places)
   checks_refused lent s t = rw (check_refused s, t) (record { answered = refl; noted = refl; named = tt })
 
   pub checks_open : (plan : Plan) (w : Walked) (lent left : List ℕ) → Enters model log places (Ok plan)
@@ -111,7 +110,7 @@ module _ (old new log : List ℤ) (places : ℕ) where
       go (says.good o) says.bad = early _ _
       go (says.good o) (says.good n) = fit o n (says.fits_old o n)
 
-  pub rechecks_refused : (lent : List ℕ) {e : Refusal} {r : Answer} → RefusedAt new log places (number_of e.reason) e.position → ToldEarly e r
+  pub rechecks_refused : (lent : List ℕ) {num p : ℕ} {r : Answer} → RefusedAt new log places num p → r ≡ answer.Refused num 0 p
       → Rechecks (record { answer = r; changed = 0; judged = 0 }) lent lent (says.recheck old new log places)
   rechecks_refused lent s t = rw (recheck_refused s, t) (record { answered = refl; noted = refl; sized = refl; counted = refl; named = tt })
 

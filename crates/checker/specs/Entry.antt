@@ -16,7 +16,7 @@ use Rattle.walking.specs.declared.Answer.TheVariants as answer
 
 -- a refusal before the walk carries step 0
 abbrev pub ToldEarly : Refusal → Answer → Type 0
-ToldEarly e r = r ≡ answer.Refused e.reason 0 e.position
+ToldEarly e r = r ≡ answer.Refused (number_of e.reason) 0 e.position
 
 -- the first size that is wrong
 abbrev pub sizes_by : Bool → Bool → Bool → Result (Unit {0}) Refusal

@@ -44,7 +44,7 @@ pub fn refused(e: Refusal) -> Answer
     ensures { ToldEarly e result }
 {
     Answer::Refused {
-        reason: e.reason,
+        number: u32::from(e.reason),
         step: 0,
         position: e.position as u32,
     }

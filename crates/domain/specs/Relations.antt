@@ -1,10 +1,13 @@
 -- A relation and its number: what is said of numbers is said of relations by `code`.
-use Rattle.std.specs.Prelude.{◌≡◌, refl, Bool, ℤ, pos}
+use Rattle.std.specs.Prelude.{◌≡◌, refl, Bool, true, false, ℤ, pos}
 use mathlib.Core.List.{List}
 use Rattle.words.specs.Lists.{all}
 use Rattle.std.proofs.Common.{ap, ◌∙◌}
 use Rattle.std.proofs.Math.Path.{fun_ext}
+use Rattle.std.proofs.lemmas.Bool.{false≢true, true≢false}
+use denote.Enum.Bare.{sameb}
 use Rattle.domain.specs.Box.{by_relation, stands, each_relation}
+use Rattle.domain.specs.contracts.relation.Relation.{the_type}
 use Rattle.domain.specs.declared.relation.Relation.{Relation}
 use Rattle.domain.specs.declared.relation.Relation.TheVariants.{AtMost, AtLeast, Equal, Different}
 
@@ -35,3 +38,29 @@ relation_code AtMost = refl
 relation_code AtLeast = refl
 relation_code Equal = refl
 relation_code Different = refl
+
+-- ---- what `==` of two relations tells
+pub same_relation : (a b : Relation) → sameb the_type a b ≡ true → a ≡ b
+same_relation AtMost AtMost e = refl
+same_relation AtMost AtLeast e = absurd (false≢true e)
+same_relation AtMost Equal e = absurd (false≢true e)
+same_relation AtMost Different e = absurd (false≢true e)
+same_relation AtLeast AtMost e = absurd (false≢true e)
+same_relation AtLeast AtLeast e = refl
+same_relation AtLeast Equal e = absurd (false≢true e)
+same_relation AtLeast Different e = absurd (false≢true e)
+same_relation Equal AtMost e = absurd (false≢true e)
+same_relation Equal AtLeast e = absurd (false≢true e)
+same_relation Equal Equal e = refl
+same_relation Equal Different e = absurd (false≢true e)
+same_relation Different AtMost e = absurd (false≢true e)
+same_relation Different AtLeast e = absurd (false≢true e)
+same_relation Different Equal e = absurd (false≢true e)
+same_relation Different Different e = refl
+
+-- what is none of the first three is the last
+pub last_relation : (a : Relation) → sameb the_type a AtMost ≡ false → sameb the_type a AtLeast ≡ false → sameb the_type a Equal ≡ false → a ≡ Different
+last_relation AtMost e f g = absurd (true≢false e)
+last_relation AtLeast e f g = absurd (true≢false f)
+last_relation Equal e f g = absurd (true≢false g)
+last_relation Different e f g = refl

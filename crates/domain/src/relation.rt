@@ -1,13 +1,13 @@
-// How a value stands to another.
+// How a value stands to another. In this order the compiler numbers the three that have the numbers 1 to 3 in a log by these, so `from` costs little.
 ghost use Rattle.std.specs.Prelude.{◌≡◌};
 ghost use Rattle.domain.specs.Relations.{relation_of};
 
 #[derive(Clone, Copy, PartialEq, Eq, Debug)]
 pub enum Relation {
+    Different,
     AtMost,
     AtLeast,
     Equal,
-    Different,
 }
 
 // The relation that a number in a log stands for: 1 at most, 2 at least, 3 equal, any other different.

@@ -40,10 +40,10 @@ pub fn fields(answer: Answer, changed: u32, judged: u32) -> DimpsyholtAnswer
 {
     match answer {
         Answer::Refused {
-            reason,
+            number,
             step,
             position,
-        } => answer::refused(u32::from(reason), step, position, changed, judged),
+        } => answer::refused(number, step, position, changed, judged),
         Answer::Accepted(c) => reached(Kind::Accepted, c, changed, judged),
         Answer::Carried(c) => reached(Kind::Carried, c, changed, judged),
     }

@@ -12,6 +12,7 @@ use domain::Relation;
 use reading;
 use reading::refusals::{Reason, Refusal};
 use steps::FactPlace;
+use words;
 use words::{FactNo, VarNo};
 
 fn verdict(fits: bool) -> Result<(), Refusal>
@@ -38,7 +39,7 @@ fn is_at_least(log: &[i32], at: usize, x: VarNo, value: i32) -> bool
 {
     Relation::from(log[at + 1]) == Relation::AtLeast
         && reading::variable_at(log, at) == x
-        && value <= log[at + 2]
+        && words::at_most(value, log[at + 2])
 }
 
 // Does it say, without any premise, that x is at least some number not below `value`?

@@ -37,7 +37,9 @@ pub fn cited(log: &[i32], places: &[u32], n: FactNo) -> FactPlace
     steps::made_fact_at(log, start)
 }
 
-// The box of a fact, in the table of cells. Where a set of it is empty the step is refused.
+// The box of a fact, in the table of cells. Where a set of it is empty the step is refused. It is put into its two callers: called, it would write
+// its answer into memory at each step, and a check is slower.
+#[inline(always)]
 fn fill_box(
     model: &[i32],
     v: usize,

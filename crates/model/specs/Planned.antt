@@ -62,6 +62,12 @@ pub record Unread (s : List ℤ) (num p : ℕ) : Type 0 where
 pub unread : {s : List ℤ} {e : Refusal} → Skims read_model s 0 (Err e) → Unread s (number_of e.reason) e.position
 unread {s} h = let q = skim_refused (read_model 0 s) (sym h.told) in let r = refused_inside s q in record { is = q; number = (r.0, r.1); inside = r.2 }
 
+-- the table of starts is as the reading leaves it: of those that were lent the first were set
+pub record Noted (s : List ℤ) (starts : List ℕ) : Type 0 where
+  pub lent : List ℕ
+  pub room : most_rows ≤ length lent
+  pub is : starts ≡ sets lent 0 (model_starts s)
+
 -- as the reading leaves it: the first entries of the table of starts were set
 pub planned : {s : List ℤ} (l : List ℕ) → Modelled s → most_rows ≤ length l → Planned s (sets l 0 (model_starts s)) (length (model_of s).bounds) (length (model_of s).rows)
 planned {s} l k h =

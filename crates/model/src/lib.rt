@@ -4,14 +4,14 @@
 mod bounds;
 mod rows;
 
-ghost use Rattle.std.specs.Prelude.{◌≡◌, ◌≤◌, length, Err, MatchResult};
+ghost use Rattle.std.specs.Prelude.{◌≡◌, ◌≤◌, length, Err, IfOk, MatchResult};
 ghost use Rattle.std.proofs.lemmas.List.Edits.{sets};
 ghost use Rattle.meaning.specs.Limits.{most_rows};
 ghost use Rattle.meaning.specs.Model.{read_model};
 ghost use Rattle.reading.specs.Told.{Skims};
 ghost use Rattle.model.specs.RowWords.{RowBegins, row_size};
 ghost use Rattle.model.specs.Starts.{model_starts};
-ghost use Rattle.model.specs.Planned.{model_of, Modelled, Planned};
+ghost use Rattle.model.specs.Planned.{model_of, Modelled, Noted, Planned};
 ghost use Rattle.model.specs.OnePlan.{planned_prop};
 
 use reading;
@@ -36,15 +36,26 @@ impl<'a> Plan<'a> {
     // The plan that a table holds. The first word of each row is noted in `starts`.
     pub fn read(model: &'a [i32], starts: &'a mut [u32]) -> Result<Plan<'a>, Refusal>
         requires { (length model.now ≤ 65536) × (most_rows ≤ length starts.old) }
-        ensures { MatchResult result (λ plan. (plan.words.now ≡ model.now) × Modelled model.now) (λ e. Skims read_model model.now 0 (Err e)) }
+        ensures read { MatchResult result (λ plan. (plan.words.now ≡ model.now) × Modelled model.now) (λ e. Skims read_model model.now 0 (Err e)) }
+        ensures noted { IfOk result (λ plan. plan.starts.now ≡ sets starts.old 0 (model_starts model.now)) }
     {
         read_model(model, &mut *starts)?;
-        Ok(Plan {
+        Ok(Plan::of(model, starts))
+    }
+
+    // The plan of a table that `read_model` read well, with the starts that it noted: for a caller that looks at these after a refusal too, of
+    // which `read` says nothing.
+    pub fn of(model: &'a [i32], starts: &'a [u32]) -> Plan<'a>
+        requires read { Modelled model.now }
+        requires noted { Noted model.now starts.now }
+        ensures { (result.words.now ≡ model.now) × (result.starts.now ≡ starts.now) }
+    {
+        Plan {
             words: model,
             starts,
             variables: variables_of(model),
             rows: rows_of(model),
-        })
+        }
     }
 }
 

@@ -103,16 +103,20 @@ fn exclude(x: VarNo, value: i32, cells: &mut [i32])
     }
 }
 
-// The box after an atom. The ends move to values that are left; only a value between them becomes a hole.
+// The box after an atom. The ends move to values that are left; only a value between them becomes a hole. Tried as a
+// `match`: the compiler makes a table of jumps of it, and a check is slower than with three tests.
 pub fn narrow(x: VarNo, relation: Relation, value: i32, cells: &mut [i32])
     requires { Formed cells.old × Room cells.old 1 × (x.0 < variables cells.old) }
     ensures { cells.new ≡ narrowed cells.old x.0 (code relation) value }
 {
-    match relation {
-        Relation::AtMost => squeeze(x, false, value, cells),
-        Relation::AtLeast => squeeze(x, true, value, cells),
-        Relation::Equal => only(x, value, cells),
-        Relation::Different => exclude(x, value, cells),
+    if relation == Relation::AtMost {
+        squeeze(x, false, value, cells);
+    } else if relation == Relation::AtLeast {
+        squeeze(x, true, value, cells);
+    } else if relation == Relation::Equal {
+        only(x, value, cells);
+    } else {
+        exclude(x, value, cells);
     }
 }
 

@@ -16,7 +16,9 @@ use reading::counts::{Count, Known};
 use reading::kinds::StepKind;
 use reading::limits::MOST_HINTS;
 
-// Where the fact of a step that makes one begins: behind its row number, or at once.
+// Where the fact of a step that makes one begins: behind its row number, or at once. It is put into `step` as it is written, for the reason that
+// `ranges::number` gives.
+#[inline(always)]
 fn fact_start(s: &[i32], at: usize, kind: StepKind, rows: Count) -> Option<usize>
     ensures { Starts rows.n kind s.now at result }
 {

@@ -23,10 +23,10 @@ pub fn names(s: &[i32], at: usize, n: Count) -> bool
     ensures { result ≡ true → Names n.n s.now at }
 {
     let x = words::word(s, at);
-    if as_word(n) <= x {
+    if words::at_most(as_word(n), x) {
         return false;
     }
-    0 <= x
+    words::at_most(0, x)
 }
 
 pub fn is_within(s: &[i32], at: usize, lo: i32, hi: i32) -> bool
@@ -36,7 +36,8 @@ pub fn is_within(s: &[i32], at: usize, lo: i32, hi: i32) -> bool
     words::in_range(words::word(s, at), lo, hi)
 }
 
-// The number of one of n things.
+// The number of one of n things. It is put into its callers as it is written, for the reason that `number` gives.
+#[inline(always)]
 pub fn named(s: &[i32], at: usize, n: Count) -> Option<usize>
     ensures { Ends (number_below n.n) s.now at result }
 {

@@ -5,5 +5,6 @@ pub mod Told
 pub mod Turns
 pub mod Only
 pub mod Reading
+pub mod Numbered
 pub mod Back
 pub mod Over

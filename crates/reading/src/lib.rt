@@ -7,11 +7,11 @@ pub mod kinds;
 pub mod limits;
 pub mod refusals;
 
-ghost use Rattle.std.specs.Prelude.{◌≡◌, ◌≤◌, ◌<◌, ◌^◌, pos, length, get_or, ◌≤ℤ◌};
+ghost use Rattle.std.specs.Prelude.{ℕ, ◌≡◌, ◌≤◌, ◌<◌, ◌^◌, pos, length, get_or, ◌≤ℤ◌};
 ghost use Rattle.meaning.specs.Read.{word, count, below, neg};
 ghost use Rattle.reading.specs.At.{nat_at};
 ghost use Rattle.reading.specs.Reasons.{number_of};
-ghost use Rattle.reading.specs.Told.{Skims};
+ghost use Rattle.reading.specs.Told.{Skims, SkimsBy};
 ghost use Rattle.reading.specs.Turns.{Turns};
 
 use refusals::{Reason, Refusal};
@@ -35,48 +35,91 @@ pub const LOG: Table = Table {
     outside: Reason::LogWordOutside,
 };
 
+// The word at a position, from lo to hi: `early` where the table ends before it, `outside` where it is out of range, whatever stands for the two.
+// Each way returns by itself: so the compiler makes jumps of every reader above.
+pub fn word<E: Copy>(
+    s: &[i32],
+    at: usize,
+    early: E,
+    outside: E,
+    lo: i32,
+    hi: i32,
+) -> Result<usize, E>
+    ensures { (number : E → ℕ) → SkimsBy number (word (number early) (number outside) lo hi) s.now at result }
+{
+    if at < s.len() {
+        let w = s[at];
+        let next = at + 1;
+        if words::in_range(w, lo, hi) {
+            return Ok(next);
+        }
+        return Err(outside);
+    }
+    Err(early)
+}
+
+// A word from -most to most.
+pub fn within<E: Copy>(s: &[i32], at: usize, early: E, outside: E, most: usize) -> Result<usize, E>
+    requires { (1 ≤ most) × (most < 2 ^ 31) }
+    ensures { (number : E → ℕ) → SkimsBy number (word (number early) (number outside) (neg most) (pos most)) s.now at result }
+{
+    let hi = most as i32;
+    word(s, at, early, outside, 0 - hi, hi)
+}
+
+// A word that is a number from lo to hi.
+pub fn number<E: Copy>(
+    s: &[i32],
+    at: usize,
+    early: E,
+    outside: E,
+    lo: usize,
+    hi: usize,
+) -> Result<usize, E>
+    requires { (lo < 2 ^ 31) × (hi < 2 ^ 31) }
+    ensures { (number : E → ℕ) → SkimsBy number (count (number early) (number outside) lo hi) s.now at result }
+{
+    word(s, at, early, outside, lo as i32, hi as i32)
+}
+
+// A word that is a number below n: with n = 0 no word is in range.
+pub fn below<E: Copy>(s: &[i32], at: usize, early: E, outside: E, n: usize) -> Result<usize, E>
+    requires { n ≤ 2 ^ 31 }
+    ensures { (number : E → ℕ) → SkimsBy number (below (number early) (number outside) n) s.now at result }
+{
+    if n == 0 {
+        return number(s, at, early, outside, 1, 0);
+    }
+    number(s, at, early, outside, 0, n - 1)
+}
+
+// The same readers, refusing by the table's two reasons.
 impl Table {
-    // The word at a position, from lo to hi. Each way returns by itself: so the compiler makes jumps of every reader above.
     pub fn word(self, s: &[i32], at: usize, lo: i32, hi: i32) -> Result<usize, Refusal>
         ensures { Skims (word (number_of self.early) (number_of self.outside) lo hi) s.now at result }
     {
-        if at < s.len() {
-            let w = s[at];
-            let next = at + 1;
-            if words::in_range(w, lo, hi) {
-                return Ok(next);
-            }
-            return Err(self.outside.at(at));
-        }
-        Err(self.early.at(at))
+        word(s, at, self.early.at(at), self.outside.at(at), lo, hi)
     }
 
-    // A word from -most to most.
     pub fn within(self, s: &[i32], at: usize, most: usize) -> Result<usize, Refusal>
         requires { (1 ≤ most) × (most < 2 ^ 31) }
         ensures { Skims (word (number_of self.early) (number_of self.outside) (neg most) (pos most)) s.now at result }
     {
-        let hi = most as i32;
-        self.word(s, at, 0 - hi, hi)
+        within(s, at, self.early.at(at), self.outside.at(at), most)
     }
 
-    // A word that is a number from lo to hi.
     pub fn number(self, s: &[i32], at: usize, lo: usize, hi: usize) -> Result<usize, Refusal>
         requires { (lo < 2 ^ 31) × (hi < 2 ^ 31) }
         ensures { Skims (count (number_of self.early) (number_of self.outside) lo hi) s.now at result }
     {
-        self.word(s, at, lo as i32, hi as i32)
+        number(s, at, self.early.at(at), self.outside.at(at), lo, hi)
     }
 
-    // A word that is a number below n: with n = 0 no word is in range.
     pub fn below(self, s: &[i32], at: usize, n: usize) -> Result<usize, Refusal>
         requires { n ≤ 2 ^ 31 }
         ensures { Skims (below (number_of self.early) (number_of self.outside) n) s.now at result }
     {
-        if n == 0 {
-            return self.number(s, at, 1, 0);
-        }
-        self.number(s, at, 0, n - 1)
+        below(s, at, self.early.at(at), self.outside.at(at), n)
     }
 }
 

@@ -38,8 +38,8 @@ pub fn table(rt: &impl Print, s: &[i32]) -> io::Result<()> {
         return Ok(());
     }
     let mut starts = [AS_LENT; MOST_ROWS];
-    match Plan::read(s, &mut starts) {
-        Ok(plan) => good(rt, plan),
+    match model::read_model(s, &mut starts) {
+        Ok(_) => good(rt, Plan::of(s, &starts)),
         Err(e) => {
             refusal(rt, e)?;
             print!(rt; ";")?;

@@ -11,6 +11,7 @@ use Rattle.judging.specs.Cited.{Cited}
 use Rattle.walking.specs.LeadsTo.{LeadsTo}
 use Rattle.walking.specs.FromStep.{from, from_stops, from_goes, state_at, state_passed}
 use Rattle.walking.specs.declared.Conclusion.{Conclusion as Concluded}
+use Rattle.reading.specs.Reasons.{number_of}
 use Rattle.reading.specs.declared.refusals.Refusal.{Refusal}
 use Rattle.walking.specs.declared.Onward.{Onward}
 use Rattle.walking.specs.declared.Onward.TheVariants as onward
@@ -86,7 +87,7 @@ module _ (held : Step → Bool) (w : Bool) (m : Model) (v : ℕ) (log : List ℤ
             sym (take-append-drop (k + 1) (set places k at)) ∙ ap (λ z. z ++ drop (k + 1) (set places k at)) a
             ∙ ap (λ z. (take k places ++ (at ∷ [])) ++ z) (rest_more h ∙ ap (λ n. drop n lent) (sym (long h)))
 
-    pub stops_so : (r : Walked) (f : Refusal) (i : ℕ) → Leads i (Err f) → r.answer ≡ answer.Refused f.reason k f.position → r.judged ≡ i
+    pub stops_so : (r : Walked) (f : Refusal) (i : ℕ) → Leads i (Err f) → r.answer ≡ answer.Refused (number_of f.reason) k f.position → r.judged ≡ i
         → Tells r lent places (over held (say_by w) m log)
     stops_so r f i e q p =
         let o = s.outcome ∙ from_stops held (say_by w) m k _ at (drop at log) (sym e) in

@@ -24,7 +24,7 @@ told_conclusion conclusion.NoAssignment = says.nothing
 told_conclusion (conclusion.NeverBelow x v) = says.at_least x.0 v
 
 abbrev pub told_answer : Answer → says.Answer
-told_answer (answer.Refused r k p) = says.shut (number_of r) k p
+told_answer (answer.Refused num k p) = says.shut num k p
 told_answer (answer.Accepted c) = says.accepted (told_conclusion c)
 told_answer (answer.Carried c) = says.carried (told_conclusion c)
 
@@ -84,7 +84,7 @@ ConclusionIn n conclusion.NoAssignment = Unit {0}
 ConclusionIn n (conclusion.NeverBelow x v) = x.0 < n
 
 abbrev pub NamesIn : ℕ → Answer → Type 0
-NamesIn n (answer.Refused r k p) = Unit {0}
+NamesIn n (answer.Refused num k p) = Unit {0}
 NamesIn n (answer.Accepted c) = ConclusionIn n c
 NamesIn n (answer.Carried c) = ConclusionIn n c
 

@@ -33,7 +33,7 @@ pub enum Conclusion {
 #[derive(Clone, Copy)]
 pub enum Answer {
     Refused {
-        reason: Reason,
+        number: u32,
         step: u32,
         position: u32,
     },
@@ -188,7 +188,7 @@ pub fn walk(
             Err(refusal) => {
                 return Walked {
                     answer: Answer::Refused {
-                        reason: refusal.reason,
+                        number: u32::from(refusal.reason),
                         step: k as u32,
                         position: refusal.position as u32,
                     },

@@ -39,4 +39,4 @@ returns-in-Err c =
     let l = c.loop-next in
     let s = l.invariant.1 in
     let long = length-take-le l.k l.places s.cited.enough in
-    stops_so _ _ _ _ _ _ c.requires.1 _ _ _ _ s _ _ _ (rw long at c.in-Err.ensures.moved) refl refl
+    stops_so _ _ _ _ _ _ c.requires.1 _ _ _ _ s _ _ _ (rw long at c.in-Err.ensures.moved) (rw c.from.ensures refl) refl

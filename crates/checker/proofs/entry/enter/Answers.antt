@@ -5,4 +5,4 @@ use Rattle.checker.proofs.entry.enter.Goals as goal
 pub returns : goal.returns
 returns c =
     let a = c.args in
-    read_so a.model.now a.log.now a.places (sizes_fit a.model.now a.log.now a.places c.in_ok-sizes.ensures) c.read.result c.read.ensures
+    read_so a.model.now a.log.now a.places (sizes_fit a.model.now a.log.now a.places c.in_ok-sizes.ensures) c.read.result c.read.ensures.read
