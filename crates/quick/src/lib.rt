@@ -10,24 +10,11 @@ ghost use Rattle.std.specs.Prelude.{◌≡◌};
 ghost use Rattle.meaning.specs.Limits.{most_hints};
 ghost use Rattle.meaning.specs.Read.{times};
 ghost use Rattle.meaning.specs.Log.{number_below, step};
-ghost use Rattle.quick.specs.Ends.{Ends, Counted, Starts, Follows};
+ghost use Rattle.quick.specs.Ends.{Ends, Counted, Follows};
 
 use reading::counts::{Count, Known};
 use reading::kinds::StepKind;
 use reading::limits::MOST_HINTS;
-
-// Where the fact of a step that makes one begins: behind its row number, or at once. It is put into `step` as it is written, for the reason that
-// `ranges::number` gives.
-#[inline(always)]
-fn fact_start(s: &[i32], at: usize, kind: StepKind, rows: Count) -> Option<usize>
-    ensures { Starts rows.n kind s.now at result }
-{
-    match kind {
-        StepKind::Inference => ranges::named(s, at, rows),
-        StepKind::Deduction => Some(at),
-        StepKind::NoAssignment | StepKind::NeverBelow => None,
-    }
-}
 
 fn hints(s: &[i32], at: usize, k: Count) -> Option<usize>
     ensures { Counted most_hints (λ n. times n (number_below k.n)) s.now at result }
@@ -51,12 +38,17 @@ fn after_fact(s: &[i32], at: usize, kind: StepKind, k: Count) -> Option<usize>
     }
 }
 
-// The step that begins at a position. Of a conclusion it is never sure.
+// The step that begins at a position. Of a conclusion it is never sure. Where the fact begins is told here: a function of its own answered an Option,
+// which the compiler put together and took apart again by moves, and a check was slower.
 pub fn step(s: &[i32], at: usize, known: Known) -> Option<usize>
     ensures { Ends (step known.variables.n known.rows.n known.facts.n) s.now at result }
 {
     let kind = StepKind::from(ranges::number(s, at, 4)?);
-    let from = fact_start(s, at + 1, kind, known.rows)?;
+    let from = match kind {
+        StepKind::Inference => ranges::named(s, at + 1, known.rows)?,
+        StepKind::Deduction => at + 1,
+        StepKind::NoAssignment | StepKind::NeverBelow => return None,
+    };
     let end = facts::fact(s, from, known.variables)?;
     after_fact(s, end, kind, known.facts)
 }
